@@ -1,0 +1,5 @@
+pub mod Rules
+pub mod Listing
+pub mod Outcome
+pub mod Draws
+pub mod Calls

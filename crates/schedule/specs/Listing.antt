@@ -1,0 +1,45 @@
+-- The list of allowed steps (document 01, "Stations that meet"): "Steps are listed by kind, then sender, then receiver, rising."
+use mathlib.Core.Bool.{Bool, true, false}
+use mathlib.Core.List.{List, [], _∷_, map, flatMap}
+use Prim.Native.Nat.{ℕ, zero, suc, _-_}
+use Rattle.schedule.specs.declared.Step.{Step}
+use Rattle.schedule.specs.Rules.{Rules, allowed}
+
+-- a, a + 1, .., n numbers
+unfoldable pub count : ℕ → ℕ → List ℕ
+count a zero = []
+count a (suc n) = a ∷ count (suc a) n
+
+-- the numbers from a up to b, b left out
+unfoldable pub range : ℕ → ℕ → List ℕ
+range a b = count a (b - a)
+
+unfoldable pub keepIf : {A : Type 0} → Bool → A → List A → List A
+keepIf true a l = a ∷ l
+keepIf false a l = l
+
+-- the entries that pass the test, in their order
+unfoldable pub select : {A : Type 0} → (A → Bool) → List A → List A
+select p [] = []
+select p (a ∷ l) = keepIf (p a) a (select p l)
+
+abbrev pub step : ℕ → ℕ → ℕ → Step
+step kind s r = record { kind = kind; sender = s; receiver = r }
+
+-- every step of k stations with a kind from 1 to `kinds`: by kind, then sender, then receiver, rising
+unfoldable pub candidates : ℕ → ℕ → List Step
+candidates kinds k =
+    flatMap (λ (kind : ℕ). flatMap (λ (s : ℕ). map (step kind s) (range 0 k)) (range 0 k)) (range 1 (suc kinds))
+
+unfoldable pub isEmpty : List Step → Bool
+isEmpty [] = true
+isEmpty (s ∷ l) = false
+
+module _ {Net : Type 0} (R : Rules Net) where
+  -- "the c allowed steps", in their order
+  unfoldable pub listed : Net → List Step
+  listed net = select (allowed R net) (candidates (R .kinds) (R .stations net))
+
+  -- "A net is at rest when no step is allowed in it" (Lists of calls)
+  unfoldable pub quiescent : Net → Bool
+  quiescent net = isEmpty (listed net)

@@ -1,0 +1,34 @@
+-- What a single step, a draw and a run come to: document 01's number (0 is no refusal), the values given with it, and the net.
+use mathlib.Core.Bool.{Bool}
+use mathlib.Core.List.{List, [], _∷_}
+use Prim.Native.Nat.{ℕ}
+use Rattle.refusal.specs.declared.Refusal.{Refusal}
+use Rattle.refusal.specs.Refusal.{numberOf}
+use Rattle.schedule.specs.declared.Step.{Step}
+use Rattle.schedule.specs.declared.Answer.{Answer}
+use Rattle.schedule.specs.declared.Answer.the-variants.{Made, Refused}
+
+-- a single step or a draw: the step made stands in `made`, and nothing where it is refused
+pub record Outcome (Net : Type 0) : Type 0 where
+  pub number : ℕ
+  pub made : List Step
+  pub net : Net
+
+abbrev pub accepted : {Net : Type 0} → Step → Net → Outcome Net
+accepted s net = record { number = 0; made = s ∷ []; net = net }
+
+-- a refusal leaves the net as it was (Causes and numbers)
+abbrev pub refused : {Net : Type 0} → Refusal → Net → Outcome Net
+refused r net = record { number = numberOf r; made = []; net = net }
+
+-- the number and the values of each answer, with the net beside it
+abbrev pub outcomeOf : {Net : Type 0} → Answer → Net → Outcome Net
+outcomeOf (Made s) net = accepted s net
+outcomeOf (Refused r) net = refused r net
+
+-- a run: "it gives the net, the number of steps made and whether it is at rest" (Stations that meet), or number 11 with net and steps
+pub record RunOutcome (Net : Type 0) : Type 0 where
+  pub number : ℕ
+  pub steps : ℕ
+  pub rest : Bool
+  pub net : Net

@@ -1,0 +1,31 @@
+-- What a kind of net brings (document 01, "Stations that meet", "Stations with mail", "Causes and numbers"). Everything else of this
+-- crate is written once over it.
+use mathlib.Core.Bool.{Bool, not, _&&_, _||_}
+use Prim.Native.Nat.{ℕ}
+use lib.Dec.{leb, ltb, eqb}
+use Rattle.schedule.specs.declared.Step.{Step}
+
+pub record Rules (Net : Type 0) : Type 0 where
+  -- the kinds of step are 1 to `kinds`, and `reports` is the report's
+  pub kinds : ℕ
+  pub reports : ℕ
+  -- k, and the station that reports (document 01: the desk)
+  pub stations : Net → ℕ
+  pub root : Net → ℕ
+  -- in form: no number 11
+  pub wellFormed : Net → Bool
+  -- the condition that the kind's table gives for a step in range: no number 13
+  pub guard : Net → Step → Bool
+  -- the net after a step
+  pub apply : Net → Step → Net
+
+module _ {Net : Type 0} (R : Rules Net) where
+  -- "Number 12: kind not 1 to 4 (mail: 1 or 2), a station number not below k .., a report not at 0 and 0" (Causes and numbers)
+  unfoldable pub inRange : Net → Step → Bool
+  inRange net s =
+      leb 1 (s .kind) && leb (s .kind) (R .kinds) && ltb (s .sender) (R .stations net) && ltb (s .receiver) (R .stations net)
+      && (not (eqb (s .kind) (R .reports)) || eqb (s .sender) (R .root net) && eqb (s .receiver) (R .root net))
+
+  -- the steps allowed: a report is one only at 0 and 0 (Stations that meet, the table)
+  unfoldable pub allowed : Net → Step → Bool
+  allowed net s = inRange net s && R .guard net s

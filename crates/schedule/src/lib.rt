@@ -1,0 +1,15 @@
+// What the calls of every kind of net share: a step, and what a step or a draw answers. Listing, draws, runs and lists of calls are in specs/.
+use refusal::Refusal;
+
+// A step of a net: its kind, counted from 1, its sender and its receiver.
+pub struct Step {
+    pub kind: u8,
+    pub sender: u8,
+    pub receiver: u8,
+}
+
+// What a single step or a draw answers: the step made, or why none was.
+pub enum Answer {
+    Made(Step),
+    Refused(Refusal),
+}

@@ -1,0 +1,3 @@
+pub mod Graph
+pub mod Wave
+pub mod Claim
