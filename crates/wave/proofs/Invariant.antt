@@ -1,5 +1,5 @@
--- The wave's invariant: it holds of the fresh state and every step that the weak guard lets through keeps it.
--- Assumes nothing.
+-- The wave's invariant: it holds of the fresh state, and every step that the weak guard lets through keeps it. From it: all into the root
+-- carried means all carried (T1), and then the root holds the total (T3). Assumes nothing.
 use mathlib.Core.Path.{_≡_, refl, sym, ap, ap₂, _∙_, subst}
 use mathlib.Core.Bool.{Bool, true, false, not, _&&_, cond, and-false}
 use Prim.Native.Nat.{ℕ, zero, suc, _<_}
@@ -22,18 +22,26 @@ spent g S i = not (eqb i (g .root)) && S .carried i (S .parent i)
 abbrev pub weight : {A : Type 0} → Graph → CommMonoid A → State A → ℕ → A
 weight g M S i = cond (spent g S i) (M .unit) (S .value i)
 
+-- what holds of every state that the wave reaches
 pub record Inv {A : Type 0} (g : Graph) (M : CommMonoid A) (counts : ℕ → A) (S : State A) : Type 0 where
+  -- the order of waking, and what the next station to wake gets
   pub rank : ℕ → ℕ
   pub clock : ℕ
+  -- a message was carried by a link between awake stations
   pub sent : (i j : ℕ) → S .carried i j ≡ true → (g .adj i j ≡ true) × (S .awake i ≡ true) × (S .awake j ≡ true)
+  -- the root is awake and its own parent, which a sleeping station has too
   pub root-up : S .awake (g .root) ≡ true
   pub top : S .parent (g .root) ≡ g .root
   pub idle : (x : ℕ) → S .awake x ≡ false → S .parent x ≡ g .root
+  -- an awake station has heard from its parent, which woke before it
   pub tree : (j : ℕ) → S .awake j ≡ true → (j ≡ g .root → ⊥) → (S .carried (S .parent j) j ≡ true) × (rank (S .parent j) < rank j)
   pub low : (j : ℕ) → S .awake j ≡ true → rank j < clock
+  -- who has answered has heard from all its neighbours
   pub answered : (i : ℕ) → S .awake i ≡ true → (i ≡ g .root → ⊥) → S .carried i (S .parent i) ≡ true → Heard g S i
+  -- the values of the root and of all who have not answered join to the total, of which each value is a part
   pub conserved : sumTo M (g .size) (weight g M S) ≡ sumTo M (g .size) counts
   pub parts : (i : ℕ) → i < g .size → (rest : A) × (M .add (S .value i) rest ≡ sumTo M (g .size) counts)
+  -- after the report all is carried
   pub ended : S .reported ≡ true → (i j : ℕ) → g .adj i j ≡ true → S .carried i j ≡ true
 
 pub answers-both : {A : Type 0} (g : Graph) (S : State A) (i j : ℕ) → answers g S i j ≡ true → (i ≡ g .root → ⊥) × (S .parent i ≡ j)
@@ -79,7 +87,7 @@ module _ {A : Type 0} (g : Graph) (M : CommMonoid A) (counts : ℕ → A) where
     chain-up r i (link {j = j} e c) =
         I .sent i j (heard-up r (suc (I .rank j)) j (omega arith) (chain-up r j c) i e) .1
 
-    -- T1
+    -- T1: then all is carried
     pub all-carried : CanReport g S → (i j : ℕ) → g .adj i j ≡ true → S .carried i j ≡ true
     all-carried r i j e =
         heard-up r (suc (I .rank j)) j (omega arith) (chain-up r j (g .joined j (g .within i j e .1))) i e

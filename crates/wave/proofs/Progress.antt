@@ -1,5 +1,5 @@
--- While the wave has not reported, some step is open to it, even under the strong guard.
--- Assumes nothing.
+-- While the wave has not reported, some step is open to it, even under the strong guard (T2): some start, or else all are awake and only
+-- answers are missing, and one whose sender woke last may go. Assumes nothing.
 use mathlib.Core.Path.{_≡_, sym, _∙_, subst}
 use mathlib.Core.Bool.{true, false}
 use mathlib.Core.Logic.{_⊎_, inl, inr}

@@ -36,7 +36,7 @@ pub record Refinement {A : Type 0} (g : Graph) (M : CommMonoid A) (counts : ℕ 
       → Stands (make n m) (next g M S (label m))
   pub live : (n : Net) (S : State A) (s : Step) → Stands n S → Inv g M counts S → Strong g S s → (m : Move) × Allowed n m
 
-adj-sym : (g : Graph) (i j : ℕ) → g .adj i j ≡ g .adj j i
+pub adj-sym : (g : Graph) (i j : ℕ) → g .adj i j ≡ g .adj j i
 adj-sym g i j =
     by-bool (g .adj i j)
     (λ a. a ∙ sym (g .mutual-adj i j a))
@@ -48,7 +48,7 @@ module _ {A : Type 0} (g : Graph) (M : CommMonoid A) (counts : ℕ → A) where
       → number ≡ reached (next g M) (fresh g counts) made .value (g .root)
       → (reached (next g M) (fresh g counts) made .reported ≡ true → rest)
       → (rest → reached (next g M) (fresh g counts) made .reported ≡ true)
-      → Demand g M counts made rest number
+      → Demand (g .size) (g .adj) M counts made rest number
   unfolding indicator
   demand-of-state made rest number l number-is to-rest from-rest =
       let S = reached (next g M) (fresh g counts) made in
@@ -86,9 +86,22 @@ module _ {A : Type 0} (g : Graph) (M : CommMonoid A) (counts : ℕ → A) where
         let p = stands (K .make n m) (next g M S (K .label m)) ms (K .keeps n S m st I (r .0)) (keep g M counts S (K .label m) I w) (r .1) in
         ((w, p .0), p .1)
 
+    -- the state that the net reached stands for, and whether there was a report
+    pub state-reached : (ms : List (K .Move)) → Runs (K .Allowed) (K .make) (K .opened) ms
+        → (S : State A) × Inv g M counts S × K .Stands (reached (K .make) (K .opened) ms) S × (times report (map (K .label) ms) ≡ indicator (S .reported))
+    unfolding indicator
+    state-reached ms r =
+        let made = map (K .label) ms in
+        let p = stands (K .opened) (fresh g counts) ms (K .opened-stands) (fresh-inv g M counts) r in (
+          reached (next g M) (fresh g counts) made,
+          inv-after g M counts (fresh g counts) made (fresh-inv g M counts) (p .0),
+          p .1,
+          omega (arith, times-report g M counts (fresh g counts) made (p .0)),
+        )
+
     -- after every list of allowed moves from the opened net
     pub refinement-demand : (ms : List (K .Move)) → Runs (K .Allowed) (K .make) (K .opened) ms
-        → Demand g M counts (map (K .label) ms) (AtRest (K .Allowed) (reached (K .make) (K .opened) ms)) (K .result (reached (K .make) (K .opened) ms))
+        → Demand (g .size) (g .adj) M counts (map (K .label) ms) (AtRest (K .Allowed) (reached (K .make) (K .opened) ms)) (K .result (reached (K .make) (K .opened) ms))
     refinement-demand ms r =
         let n = reached (K .make) (K .opened) ms in
         let S = reached (next g M) (fresh g counts) (map (K .label) ms) in

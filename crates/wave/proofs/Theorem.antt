@@ -29,6 +29,6 @@ module _ {A : Type 0} (g : Graph) (M : CommMonoid A) (counts : ℕ → A) (G : G
       }
 
   pub order-of-links : (made : List Step) → Runs (G .Allows) (next g M) (fresh g counts) made
-      → Demand g M counts made (AtRest (G .Allows) (reached (next g M) (fresh g counts) made)) (reached (next g M) (fresh g counts) made .value (g .root))
+      → Demand (g .size) (g .adj) M counts made (AtRest (G .Allows) (reached (next g M) (fresh g counts) made)) (reached (next g M) (fresh g counts) made .value (g .root))
   unfolding states
   order-of-links made r = rw map-id at (refinement-demand g M counts states made r)

@@ -1,5 +1,5 @@
--- What holds after every list of steps that the weak guard lets through.
--- Assumes nothing.
+-- What holds after every list of steps that the weak guard lets through (T4): each message carries a pair that was not carried, so the
+-- list counts the carried pairs, and nothing follows the report. Assumes nothing.
 use mathlib.Core.Path.{_≡_, refl, ap, ap₂, _∙_}
 use mathlib.Core.Bool.{Bool, true, false, _&&_, _||_}
 use mathlib.Core.List.{List, [], _∷_, _++_}

@@ -7,7 +7,7 @@ use Prim.Native.Nat.{ℕ, _+_, _*_, _≤_}
 use lib.ListN.{length}
 use lib.Dec.{eqb}
 use Rattle.finite.specs.Sum.{CommMonoid, sumTo, indicator}
-use Rattle.wave.specs.Graph.{Graph, links}
+use Rattle.wave.specs.Graph.{links}
 use Rattle.wave.specs.Wave.{Step, message, report}
 
 -- the same step
@@ -36,23 +36,24 @@ reached make n (m ∷ ms) = reached make (make n m) ms
 abbrev pub AtRest : {Net Move : Type 0} → (Net → Move → Type 0) → Net → Type 0
 AtRest {Move = Move} Allowed n = (m : Move) → Allowed n m → ⊥
 
--- What holds of the steps made, of whether the net that they leave is at rest, and of the number that the root then holds.
-pub record Demand {A : Type 0} (g : Graph) (M : CommMonoid A) (counts : ℕ → A) (made : List Step) (rest : Type 0) (number : A) : Type 0 where
+-- On k stations with these links: what holds of the steps made, of whether the net that they leave is at rest, and of the number that
+-- the root then holds.
+pub record Demand {A : Type 0} (k : ℕ) (adj : ℕ → ℕ → Bool) (M : CommMonoid A) (counts : ℕ → A) (made : List Step) (rest : Type 0) (number : A) : Type 0 where
   -- "at most one report"
   pub one-report : times report made ≤ 1
   -- "no link used twice in a direction"
   pub one-message : (i j : ℕ) → times (message i j) made ≤ 1
   -- a message is "carried by the link of its two stations"
-  pub over-links : (i j : ℕ) → g .adj i j ≡ false → times (message i j) made ≡ 0
+  pub over-links : (i j : ℕ) → adj i j ≡ false → times (message i j) made ≡ 0
   -- never more than 2m + 1 steps
-  pub at-most : length made ≤ 2 * links (g .size) (g .adj) + 1
+  pub at-most : length made ≤ 2 * links k adj + 1
   -- "report made ⇔ nothing allowed"
   pub report-rest : (times report made ≡ 1) ↔ rest
   -- "⇔ exactly 2m + 1 steps made"
-  pub report-full : (times report made ≡ 1) ↔ (length made ≡ 2 * links (g .size) (g .adj) + 1)
+  pub report-full : (times report made ≡ 1) ↔ (length made ≡ 2 * links k adj + 1)
   -- "then it was last"
   pub report-last : times report made ≡ 1 → (front : List Step) × (made ≡ front ++ (report ∷ []))
   -- "the number is the sum of all counts"
-  pub total : times report made ≡ 1 → number ≡ sumTo M (g .size) counts
+  pub total : times report made ≡ 1 → number ≡ sumTo M k counts
   -- "each link carried one message each way"
-  pub each-way : times report made ≡ 1 → (i j : ℕ) → g .adj i j ≡ true → times (message i j) made ≡ 1
+  pub each-way : times report made ≡ 1 → (i j : ℕ) → adj i j ≡ true → times (message i j) made ≡ 1

@@ -1,0 +1,2 @@
+pub mod Aggregate
+pub mod Joining

@@ -1,0 +1,3 @@
+pub mod Entries
+pub mod Bits
+pub mod Laws

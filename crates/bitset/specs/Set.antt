@@ -1,0 +1,29 @@
+-- Sets of stations (document 01, "The line map"): "a set of neighbours (64 bits; bit j, worth 2^j, is station j)".
+use Prim.Native.Nat.{ℕ, zero, suc, _+_, _-_, _/_, _%_, _^_}
+use mathlib.Core.Bool.{Bool, cond}
+use lib.Dec.{eqb, ltb}
+
+-- bit j of s, 0 or 1
+abbrev pub bit : ℕ → ℕ → ℕ
+bit j s = s / 2 ^ j % 2
+
+-- station j is in the set s
+unfoldable pub member : ℕ → ℕ → Bool
+member j s = eqb (bit j s) 1
+
+-- how many stations below n are in the set s
+unfoldable pub count : ℕ → ℕ → ℕ
+count zero s = 0
+count (suc n) s = count n s + bit n s
+
+-- "The size of a set" (One station): how many stations are in it
+unfoldable pub size : ℕ → ℕ
+size s = count 64 s
+
+-- "j leaves the set" (One station): the set s without station j
+unfoldable pub without : ℕ → ℕ → ℕ
+without j s = cond (member j s) (s - 2 ^ j) s
+
+-- "set members below k" (Causes and numbers, form): every station in the set s is below k
+unfoldable pub within : ℕ → ℕ → Bool
+within k s = ltb s (2 ^ k)

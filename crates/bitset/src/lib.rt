@@ -1,0 +1,49 @@
+// Sets of stations 0 to 63, held in 64 bits: bit j, worth 2^j, is station j.
+ghost use mathlib.Core.Path.{_≡_};
+ghost use Rattle.bitset.specs.Set;
+
+mod table;
+
+// The size of a set: the sum of the table's entries at its eight bytes.
+pub fn size(set: u64) -> u8
+    ensures { λ r. ⌜ r ≡ Set.size set ⌝ }
+{
+    let mut sum: u8 = 0;
+    let mut at: u8 = 0;
+    while at < 64 {
+        sum += table::byte_size(((set >> at) % 256) as u8);
+        at += 8;
+    }
+    sum
+}
+
+// Whether station j is in the set.
+pub fn contains(set: u64, j: u8) -> bool
+    ensures { λ r. ⌜ r ≡ Set.member j set ⌝ }
+{
+    if 64 <= j {
+        return false;
+    }
+    (set >> j) % 2 == 1
+}
+
+// The set without station j.
+pub fn without(set: u64, j: u8) -> u64
+    ensures { λ r. ⌜ r ≡ Set.without j set ⌝ }
+{
+    if contains(set, j) {
+        set - (1u64 << j)
+    } else {
+        set
+    }
+}
+
+// Whether every station in the set is below k.
+pub fn is_within(set: u64, k: u8) -> bool
+    ensures { λ r. ⌜ r ≡ Set.within k set ⌝ }
+{
+    if 64 <= k {
+        return true;
+    }
+    (set >> k) == 0
+}

@@ -1,0 +1,4 @@
+pub mod Formed
+pub mod Outcomes
+pub mod Laws
+pub mod Examples

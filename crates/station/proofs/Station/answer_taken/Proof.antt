@@ -1,0 +1,27 @@
+-- `station::Station::answer_taken` meets its contract: past the test the code's join is the rules'. Assumes nothing.
+use mathlib.Core.Path.{sym, _∙_}
+use borrow.Author.Tests.{not-true, not-false}
+use borrow.Author.Needs.{needs}
+use Rattle.station.proofs.Station.answer_taken.Statement.{statement}
+use Rattle.station.proofs.Station.answer_taken.Tie as tie
+
+is-joinable-requires : tie.Need-is-joinable-requires
+is-joinable-requires c κs = search needs
+
+returns : tie.Need-returns
+returns c = rw (sym (c .before .is-joinable .ensures) ∙ not-true _ (c .if1 .taken))
+
+join-requires : tie.Need-join-requires
+join-requires c κs = search needs
+
+less-one-requires : tie.Need-less-one-requires
+less-one-requires c κs = search needs
+
+returns-2 : tie.Need-returns-2
+returns-2 c =
+    let may = sym (c .before .before .before .is-joinable .ensures) ∙ not-false _ (c .before .before .if1 .left) in
+    rw (c .less-one .ensures, c .before .join .ensures, may)
+
+pub answer-taken-spec : {M : Type 1} → statement M
+answer-taken-spec =
+    tie.close (tie.spec is-joinable-requires returns join-requires less-one-requires returns-2)

@@ -1,0 +1,30 @@
+-- The form of a station, number 11 (document 01, "Causes and numbers"): what the nets ask of each of theirs, and a process of its own.
+use Prim.Native.Nat.{ℕ}
+use mathlib.Core.Bool.{Bool, not, _&&_, _||_}
+use lib.Dec.{eqb, leb, ltb}
+use Rattle.aggregate.specs.declared.Config.{Config}
+use Rattle.aggregate.specs.Aggregate.{rootOf, bounded}
+use Rattle.bitset.specs.Set.{member, within}
+use Rattle.station.specs.declared.Station.{Station}
+use Rattle.station.specs.declared.Process.{Process}
+use Rattle.station.specs.Events.{finished}
+
+-- station i under t: "states at most 2, parents and set members below k, waits at most 64, sums .. below 2^62, no station in its
+-- own set, none but station 0 its own parent"
+unfoldable pub wellFormed : Config → ℕ → Station → Bool
+wellFormed t i s =
+    leb (s .state) finished
+    && ltb (s .parent) (t .k)
+    && within (t .k) (s .unstarted)
+    && leb (s .waits) 64
+    && bounded t (s .held)
+    && not (member i (s .unstarted))
+    && (eqb i (rootOf t) || not (eqb (s .parent) i))
+
+-- "For one station 64 stands for k"
+abbrev pub configOf : Process → Config
+configOf p = record { k = 64 }
+
+-- "and its own number is below 64"
+unfoldable pub wellFormedProcess : Process → Bool
+wellFormedProcess p = ltb (p .own) (configOf p .k) && wellFormed (configOf p) (p .own) (p .station)

@@ -1,0 +1,314 @@
+// One station (document 01, "One station"; document 001, Definition 3.1): what a net holds of it, and the station by itself.
+use aggregate::Aggregate;
+use aggregate::Config;
+use refusal::Refusal;
+ghost use mathlib.Core.Path.{_≡_};
+ghost use mathlib.Core.Bool.{cond};
+ghost use Prim.Native.Nat.{_-_};
+ghost use Rattle.aggregate.specs.Aggregate.{joinable};
+ghost use Rattle.station.specs.Events;
+ghost use Rattle.station.specs.Form.{wellFormed, configOf, wellFormedProcess};
+ghost use Rattle.station.specs.Process as Rules;
+
+// The states.
+pub const ASLEEP: u8 = 0;
+
+pub const ACTIVE: u8 = 1;
+
+pub const FINISHED: u8 = 2;
+
+// What a net holds of a station.
+pub struct Station {
+    // What it has gathered (01: its sum).
+    pub held: Aggregate,
+    // The neighbours still to be started.
+    pub unstarted: u64,
+    pub parent: u8,
+    // How many messages it waits for.
+    pub waits: u8,
+    pub state: u8,
+}
+
+// A station by itself: the process of Definition 3.1.
+pub struct Process {
+    pub own: u8,
+    pub station: Station,
+}
+
+pub enum Answer {
+    Done,
+    // A sum, to the parent.
+    Gives(u8),
+    Refused(Refusal),
+}
+
+// An answer, and what is given with it: nothing unless the answer is `Gives`.
+pub struct Reply {
+    pub answer: Answer,
+    pub given: Aggregate,
+}
+
+// A reply, and the process after the event.
+pub struct Event {
+    pub reply: Reply,
+    pub process: Process,
+}
+
+// One less; zero from zero.
+fn less_one(n: u8) -> u8
+    ensures { λ r. ⌜ r ≡ n - 1 ⌝ }
+{
+    if n == 0 { 0 } else { n - 1 }
+}
+
+// The lines of Definition 3.1, and the form.
+impl Station {
+    // Line 1: a start from j wakes it.
+    pub fn woken(self, j: u8) -> Station
+        ensures { λ r. ⌜ r ≡ Events.woken j self ⌝ }
+    {
+        let held = self.held;
+        let set = self.unstarted;
+        let rest = bitset::without(set, j);
+        let size = bitset::size(set);
+        Station {
+            held: held,
+            unstarted: rest,
+            parent: j,
+            waits: less_one(size),
+            state: ACTIVE,
+        }
+    }
+
+    // Line 2: whether a start may go to j.
+    pub fn may_send_start(self, j: u8) -> bool
+        ensures { λ r. ⌜ r ≡ Events.maySendStart j self ⌝ }
+    {
+        (self.state == ACTIVE) & bitset::contains(self.unstarted, j)
+    }
+
+    // Line 2: a start was sent to j.
+    pub fn start_sent(self, j: u8) -> Station
+        ensures { λ r. ⌜ r ≡ Events.startSent j self ⌝ }
+    {
+        let mut next = self;
+        next.unstarted = bitset::without(self.unstarted, j);
+        next
+    }
+
+    // Line 3: an answer v was taken; the station as it was where one of the sums is not bounded.
+    pub fn answer_taken(self, t: Config, v: Aggregate) -> Station
+        ensures { λ r. ⌜ r ≡ cond (joinable t (self .held) v) (Events.answerTaken t v self) self ⌝ }
+    {
+        let held = self.held;
+        if !aggregate::is_joinable(t, held, v) {
+            return self;
+        }
+        let mut next = self;
+        next.held = aggregate::join(t, held, v);
+        next.waits = less_one(self.waits);
+        next
+    }
+
+    // Line 4: a start was taken when active.
+    pub fn start_taken(self) -> Station
+        ensures { λ r. ⌜ r ≡ Events.startTaken self ⌝ }
+    {
+        let mut next = self;
+        next.waits = less_one(self.waits);
+        next
+    }
+
+    // Lines 1 and 4: a start from j was taken.
+    pub fn started_by(self, j: u8) -> Station
+        ensures { λ r. ⌜ r ≡ Events.startedBy j self ⌝ }
+    {
+        if self.state == ASLEEP {
+            return self.woken(j);
+        }
+        self.start_taken()
+    }
+
+    // Lines 5 and 6: whether nothing is left to send or to wait for.
+    pub fn is_ready(self) -> bool
+        ensures { λ r. ⌜ r ≡ Events.ready self ⌝ }
+    {
+        (self.state == ACTIVE) & (self.unstarted == 0) & (self.waits == 0)
+    }
+
+    // Line 5: whether it may report as the station of this number.
+    pub fn may_report(self, t: Config, own: u8) -> bool
+        ensures { λ r. ⌜ r ≡ Events.mayReport t own self ⌝ }
+    {
+        (own == aggregate::root(t)) & self.is_ready()
+    }
+
+    // Line 6: whether it may answer as the station of this number.
+    pub fn may_answer(self, t: Config, own: u8) -> bool
+        ensures { λ r. ⌜ r ≡ Events.mayAnswer t own self ⌝ }
+    {
+        !(own == aggregate::root(t)) & self.is_ready()
+    }
+
+    // Lines 5 and 6: it gave its sum.
+    pub fn ended(self) -> Station
+        ensures { λ r. ⌜ r ≡ Events.ended self ⌝ }
+    {
+        let mut next = self;
+        next.state = FINISHED;
+        next
+    }
+
+    // Whether it is well-formed as the station of this number (01: in form).
+    pub fn is_well_formed(self, t: Config, own: u8) -> bool
+        ensures { λ r. ⌜ r ≡ wellFormed t own self ⌝ }
+    {
+        let k = t.k;
+        let held = self.held;
+        let set = self.unstarted;
+        (self.state <= FINISHED)
+            & (self.parent < k)
+            & bitset::is_within(set, k)
+            & (self.waits <= 64)
+            & aggregate::is_bounded(t, held)
+            & !bitset::contains(set, own)
+            & ((own == aggregate::root(t)) | !(self.parent == own))
+    }
+}
+
+// The events of document 01, each a method by value that hands the process back.
+impl Process {
+    // What it is tested and joined by.
+    fn config(self) -> Config
+        ensures { λ r. ⌜ r ≡ configOf self ⌝ }
+    {
+        Config { k: 64 }
+    }
+
+    pub fn is_well_formed(self) -> bool
+        ensures { λ r. ⌜ r ≡ wellFormedProcess self ⌝ }
+    {
+        let t = self.config();
+        let own = self.own;
+        let s = self.station;
+        (own < t.k) & s.is_well_formed(t, own)
+    }
+
+    // The process at another station, and nothing given.
+    fn done(self, station: Station) -> Event
+        ensures { λ r. ⌜ Rules.outcomeOf (r .reply) (r .process) ≡ Rules.done (Rules.after self station) ⌝ }
+    {
+        Event {
+            reply: Reply {
+                answer: Answer::Done,
+                given: aggregate::empty(),
+            },
+            process: Process {
+                own: self.own,
+                station: station,
+            },
+        }
+    }
+
+    // The end of its part: parent and sum are given.
+    fn gives(self) -> Event
+        ensures { λ r. ⌜ Rules.outcomeOf (r .reply) (r .process) ≡ Rules.gives self ⌝ }
+    {
+        let s = self.station;
+        let held = s.held;
+        Event {
+            reply: Reply {
+                answer: Answer::Gives(s.parent),
+                given: held,
+            },
+            process: Process {
+                own: self.own,
+                station: s.ended(),
+            },
+        }
+    }
+
+    fn refused(self, r: Refusal) -> Event
+        ensures { λ e. ⌜ Rules.outcomeOf (e .reply) (e .process) ≡ Rules.refused r self ⌝ }
+    {
+        Event {
+            reply: Reply {
+                answer: Answer::Refused(r),
+                given: aggregate::empty(),
+            },
+            process: self,
+        }
+    }
+
+    // The refusals in their order, else the event.
+    fn decide(self, form: bool, range: bool, allowed: bool, event: Event) -> Event
+        ensures { λ r. ⌜ Rules.outcomeOf (r .reply) (r .process) ≡ Rules.decide form range allowed self (Rules.outcomeOf (event .reply) (event .process)) ⌝ }
+    {
+        if !form {
+            return self.refused(Refusal::OutOfForm);
+        }
+        if !range {
+            return self.refused(Refusal::OutOfRange);
+        }
+        if !allowed {
+            return self.refused(Refusal::NotAllowed);
+        }
+        event
+    }
+
+    // Take a start from a neighbour: it wakes a sleeping station and leaves an active one a wait less.
+    pub fn take_start(self, from: u8) -> Event
+        ensures { λ r. ⌜ Rules.outcomeOf (r .reply) (r .process) ≡ Rules.takeStart from self ⌝ }
+    {
+        let t = self.config();
+        let s = self.station;
+        let form = self.is_well_formed();
+        let allowed = (s.state == ASLEEP) | (s.state == ACTIVE);
+        self.decide(form, from < t.k, allowed, self.done(s.started_by(from)))
+    }
+
+    // Send a start to a neighbour, which leaves the set.
+    pub fn send_start(self, to: u8) -> Event
+        ensures { λ r. ⌜ Rules.outcomeOf (r .reply) (r .process) ≡ Rules.sendStart to self ⌝ }
+    {
+        let t = self.config();
+        let s = self.station;
+        let form = self.is_well_formed();
+        let allowed = s.may_send_start(to);
+        self.decide(form, to < t.k, allowed, self.done(s.start_sent(to)))
+    }
+
+    // Take an answer: v is joined to the sum.
+    pub fn take_answer(self, v: Aggregate) -> Event
+        ensures { λ r. ⌜ Rules.outcomeOf (r .reply) (r .process) ≡ Rules.takeAnswer v self ⌝ }
+    {
+        let t = self.config();
+        let s = self.station;
+        let form = self.is_well_formed();
+        let range = aggregate::is_bounded(t, v);
+        let allowed = s.state == ACTIVE;
+        self.decide(form, range, allowed, self.done(s.answer_taken(t, v)))
+    }
+
+    // Send the sum to the parent, which the root never does.
+    pub fn send_answer(self) -> Event
+        ensures { λ r. ⌜ Rules.outcomeOf (r .reply) (r .process) ≡ Rules.sendAnswer self ⌝ }
+    {
+        let t = self.config();
+        let s = self.station;
+        let form = self.is_well_formed();
+        let allowed = s.may_answer(t, self.own);
+        self.decide(form, true, allowed, self.gives())
+    }
+
+    // Report the sum, which only the root does.
+    pub fn report(self) -> Event
+        ensures { λ r. ⌜ Rules.outcomeOf (r .reply) (r .process) ≡ Rules.report self ⌝ }
+    {
+        let t = self.config();
+        let s = self.station;
+        let form = self.is_well_formed();
+        let allowed = s.may_report(t, self.own);
+        self.decide(form, true, allowed, self.gives())
+    }
+}
