@@ -4,6 +4,7 @@ ghost use mathlib.Core.Bool.{cond};
 ghost use Rattle.aggregate.specs.Aggregate.{rootOf, valid, sumOf, bounded, nothing, gathered, joined, joinable};
 
 // What a net is opened with: the number of its stations.
+#[repr(C)]
 pub struct Config {
     pub k: u8,
 }
@@ -14,6 +15,7 @@ pub struct Reading {
 }
 
 // What a station has gathered: its own count and those of the stations that answered it.
+#[repr(C)]
 pub struct Aggregate {
     pub sum: u64,
 }

@@ -1,0 +1,89 @@
+-- The numbers tell the answers apart, so a contract on the numbers pins the answer: a refusal is read back from its numbers.
+-- Assumes nothing.
+use mathlib.Core.Path.{_≡_, refl, sym, ap, ap₂, _∙_}
+use mathlib.Core.Bool.{false, cond}
+use mathlib.Core.List.{List, [], _∷_}
+use Prim.Native.Nat.{ℕ}
+use lib.ListN.{getD}
+use lib.Dec.{eqb}
+use Rattle.finite.proofs.Cases.{clash}
+use Rattle.topology.specs.Answer.{isAccepted}
+use Rattle.topology.specs.declared.Fault.the-variants.{Stations, Beyond, Itself, OneWay, Apart}
+use Rattle.topology.proofs.Answers.{faultFrom, fault-refuses}
+use Rattle.linemap.specs.Reading.{readFaultNumbers, readNumbers, Outcome, outcomeOf}
+use Rattle.linemap.specs.Writing.{writeFaultNumbers, writeNumbers}
+use Rattle.linemap.specs.declared.Map.{Map}
+use Rattle.linemap.specs.declared.MapRead.{MapRead}
+use Rattle.linemap.specs.declared.ReadFault.{ReadFault}
+use Rattle.linemap.specs.declared.ReadAnswer.{ReadAnswer}
+use Rattle.linemap.specs.declared.ReadAnswer.the-variants.{Accepted, Refused}
+use Rattle.linemap.specs.declared.WriteFault.{WriteFault}
+use Rattle.linemap.specs.declared.WriteAnswer.{WriteAnswer}
+use Rattle.linemap.specs.declared.ReadFault.the-variants as read
+use Rattle.linemap.specs.declared.WriteFault.the-variants as write
+use Rattle.linemap.specs.declared.WriteAnswer.the-variants as written
+
+-- the refusal of a reading, and of a writing, by its number and values
+abbrev readFaultFrom : List ℕ → ReadFault
+readFaultFrom [] = read.Short
+readFaultFrom (n ∷ v) =
+    cond (eqb n 1) read.Short
+    (cond (eqb n 2) read.RowLength
+    (cond (eqb n 4) read.Distance
+    (cond (eqb n 5) read.Rows
+    (cond (eqb n 6) read.CheckWord (read.Unfit (faultFrom (n ∷ v)))))))
+
+abbrev writeFaultFrom : List ℕ → WriteFault
+writeFaultFrom [] = write.Buffer 0
+writeFaultFrom (n ∷ v) = cond (eqb n 15) (write.Buffer (getD v 0 0)) (write.Unfit (faultFrom (n ∷ v)))
+
+read-again : (f : ReadFault) → readFaultFrom (readFaultNumbers f) ≡ f
+read-again read.Short = refl
+read-again read.RowLength = refl
+read-again read.Distance = refl
+read-again read.Rows = refl
+read-again read.CheckWord = refl
+read-again (read.Unfit Stations) = refl
+read-again (read.Unfit (Beyond i)) = refl
+read-again (read.Unfit (Itself i)) = refl
+read-again (read.Unfit (OneWay i)) = refl
+read-again (read.Unfit (Apart i)) = refl
+
+write-again : (f : WriteFault) → writeFaultFrom (writeFaultNumbers f) ≡ f
+write-again (write.Buffer n) = refl
+write-again (write.Unfit Stations) = refl
+write-again (write.Unfit (Beyond i)) = refl
+write-again (write.Unfit (Itself i)) = refl
+write-again (write.Unfit (OneWay i)) = refl
+write-again (write.Unfit (Apart i)) = refl
+
+-- no refusal is an acceptance
+pub read-fault-refuses : (f : ReadFault) → isAccepted (readFaultNumbers f) ≡ false
+read-fault-refuses read.Short = refl
+read-fault-refuses read.RowLength = refl
+read-fault-refuses read.Distance = refl
+read-fault-refuses read.Rows = refl
+read-fault-refuses read.CheckWord = refl
+read-fault-refuses (read.Unfit fault) = fault-refuses fault
+
+write-fault-refuses : (f : WriteFault) → isAccepted (writeFaultNumbers f) ≡ false
+write-fault-refuses (write.Buffer n) = refl
+write-fault-refuses (write.Unfit fault) = fault-refuses fault
+
+answer-pins : (a b : ReadAnswer) → readNumbers a ≡ readNumbers b → a ≡ b
+answer-pins Accepted Accepted e = refl
+answer-pins Accepted (Refused g) e = clash (ap isAccepted (sym e)) (read-fault-refuses g)
+answer-pins (Refused f) Accepted e = clash (ap isAccepted e) (read-fault-refuses f)
+answer-pins (Refused f) (Refused g) e = ap Refused (sym (read-again f) ∙ ap readFaultFrom e ∙ read-again g)
+
+pub read-pins : (a b : MapRead) → outcomeOf a ≡ outcomeOf b → a ≡ b
+read-pins a b e =
+    ap₂ (λ (answer : ReadAnswer) (map : Map). record { answer = answer; map = map })
+    (answer-pins (a .answer) (b .answer) (ap (λ (o : Outcome). o .numbers) e))
+    (ap (λ (o : Outcome). o .map) e)
+
+pub write-pins : (a b : WriteAnswer) → writeNumbers a ≡ writeNumbers b → a ≡ b
+write-pins (written.Written m) (written.Written n) e = ap (λ (l : List ℕ). written.Written (getD l 1 0)) e
+write-pins (written.Written m) (written.Refused g) e = clash (ap isAccepted (sym e)) (write-fault-refuses g)
+write-pins (written.Refused f) (written.Written n) e = clash (ap isAccepted e) (write-fault-refuses f)
+write-pins (written.Refused f) (written.Refused g) e = ap written.Refused (sym (write-again f) ∙ ap writeFaultFrom e ∙ write-again g)

@@ -1,0 +1,69 @@
+-- Document 01's examples on reading and writing ("The program" and "Edges"), computed. Assumes nothing.
+use mathlib.Core.Path.{_≡_, refl}
+use mathlib.Core.List.{List, [], _∷_, _++_}
+use Prim.Native.Nat.{ℕ}
+use lib.ListN.{replicate, drop}
+use Rattle.finite.specs.Sum.{sumTo, indicator}
+use Rattle.wave.specs.Graph.{links}
+use Rattle.bitset.specs.Set.{member, within}
+use Rattle.aggregate.specs.Aggregate.{rootOf}
+use Rattle.topology.specs.Acceptance.{anyBelow, near, firstFrom, verdictOf, linksOf}
+use Rattle.linemap.specs.Numbers.{number, bytes, sumWords, each}
+use Rattle.linemap.specs.Maps.{linksIn}
+use Rattle.linemap.specs.Stored.{rowBytes, trailerBytes, bodyOf, checkWord, storedOf}
+use Rattle.linemap.specs.Reading.{acceptedAs, column, emptyMap, reading}
+use Rattle.linemap.specs.Writing.{writing, written}
+use Rattle.linemap.specs.declared.Map.{Map}
+
+-- "15 bytes: 1"
+fifteen : reading (replicate 15 0) ≡ record { numbers = 1 ∷ []; map = emptyMap }
+unfolding reading
+fifteen = refl
+
+-- "28 zero bytes: 2"
+zeros : reading (replicate 28 0) ≡ record { numbers = 2 ∷ []; map = emptyMap }
+unfolding reading number
+zeros = refl
+
+-- "counts 5, 7, 11; sets 6, 5, 3; lot 42; check word 4294180746"
+abbrev triangle : Map
+triangle =
+    record { k = 3; lot = 42; counts = 5 ∷ 7 ∷ 11 ∷ replicate 61 0; neighbours = 6 ∷ 5 ∷ 3 ∷ replicate 61 0 }
+
+abbrev triangle-bytes : List ℕ
+triangle-bytes =
+    5 ∷ 0 ∷ 0 ∷ 0 ∷ 6 ∷ 0 ∷ 0 ∷ 0 ∷ 0 ∷ 0 ∷ 0 ∷ 0
+    ∷ 7 ∷ 0 ∷ 0 ∷ 0 ∷ 5 ∷ 0 ∷ 0 ∷ 0 ∷ 0 ∷ 0 ∷ 0 ∷ 0
+    ∷ 11 ∷ 0 ∷ 0 ∷ 0 ∷ 3 ∷ 0 ∷ 0 ∷ 0 ∷ 0 ∷ 0 ∷ 0 ∷ 0
+    ∷ 3 ∷ 0 ∷ 12 ∷ 0 ∷ 36 ∷ 0 ∷ 0 ∷ 0 ∷ 42 ∷ 0 ∷ 0 ∷ 0 ∷ 138 ∷ 255 ∷ 243 ∷ 255 ∷ []
+
+check-word : number triangle-bytes 48 4 ≡ 4294180746
+unfolding number
+check-word = refl
+
+triangle-stored : storedOf triangle ≡ triangle-bytes
+unfolding storedOf bodyOf trailerBytes rowBytes each bytes checkWord sumWords number
+triangle-stored = refl
+
+-- after a byte that is not read
+triangle-reads : reading (9 ∷ triangle-bytes) ≡ acceptedAs triangle
+unfolding reading column each sumWords number verdictOf firstFrom member within anyBelow near rootOf
+triangle-reads = refl
+
+triangle-links : linksIn triangle ≡ 0 ∷ 3 ∷ []
+unfolding linksOf verdictOf firstFrom member within anyBelow near rootOf links sumTo indicator
+triangle-links = refl
+
+-- one byte too few, and one more than needed, which stays
+no-room : (writing triangle 51 ≡ 15 ∷ 52 ∷ []) × (written triangle (replicate 51 9) ≡ replicate 51 9)
+unfolding writing written verdictOf firstFrom member within anyBelow near rootOf
+no-room = (refl, refl)
+
+room : (writing triangle 53 ≡ 0 ∷ 52 ∷ []) × (written triangle (replicate 53 9) ≡ triangle-bytes ++ 9 ∷ [])
+unfolding writing written verdictOf firstFrom member within anyBelow near rootOf storedOf bodyOf trailerBytes rowBytes each bytes checkWord sumWords number
+room = (refl, refl)
+
+-- a byte changed
+changed : reading (6 ∷ drop 1 triangle-bytes) ≡ record { numbers = 6 ∷ []; map = emptyMap }
+unfolding reading sumWords number
+changed = refl

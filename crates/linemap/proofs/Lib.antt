@@ -1,0 +1,11 @@
+pub mod Answers
+pub mod Each
+pub mod Put
+pub mod Digits
+pub mod StoredForm
+pub mod Rules
+pub mod Accepted
+pub mod WriteRead
+pub mod ReadWrite
+pub mod RoundTrips
+pub mod Examples

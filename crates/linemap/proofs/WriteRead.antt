@@ -1,0 +1,152 @@
+-- Writing, then reading: each field of the stored form is found again where the reader looks for it, whatever stands before, and
+-- the map of these fields is accepted since the sets below k are the same. Assumes nothing.
+use mathlib.Core.Path.{_≡_, sym, ap, ap₂, _∙_}
+use mathlib.Core.Bool.{true}
+use mathlib.Core.List.{List, _++_, append-assoc}
+use Prim.Native.Nat.{ℕ, suc, _+_, _*_, _-_, _%_, _^_, _<_}
+use native.Mathlib.Nat.{mod-eq-of-lt}
+use native.Mathlib.Omega.{arith}
+use lib.ListN.{length, getD, length-append}
+use borrow.Author.Tests.{eq-eqb, lt-ltb, le-leb}
+use Rattle.aggregate.specs.Aggregate.{rootOf}
+use Rattle.topology.specs.Answer.{accepted, isAccepted}
+use Rattle.topology.specs.Acceptance.{isStationCount, Web}
+use Rattle.topology.proofs.Webs.{web-accepted, web-agree}
+use Rattle.linemap.specs.Numbers.{number, bytes, sumWords, each}
+use Rattle.linemap.specs.Maps.{configOf, acceptance}
+use Rattle.linemap.specs.Stored.{rowLength, storedLength, wordCount, rowBytes, trailerBytes, bodyOf, storedOf, checkWord}
+use Rattle.linemap.specs.Reading.{acceptedAs, stationsIn, rowLengthIn, distanceIn, lotIn, mapAt, judged, reading}
+use Rattle.linemap.specs.RoundTrip.{Fits, clearedOf}
+use Rattle.linemap.specs.Stages.{Found}
+use Rattle.linemap.specs.declared.Map.{Map}
+use Rattle.linemap.proofs.Accepted.{map-web}
+use Rattle.linemap.proofs.Each.{length-each, each-split, column-same, column-at}
+use Rattle.linemap.proofs.Digits.{length-bytes, front-number, past-number, front-sum, past-sum, number-of-bytes, sum-small, check-small, check-zero}
+use Rattle.linemap.proofs.StoredForm.{length-row, length-rows, length-body, length-stored}
+use Rattle.linemap.proofs.Rules.{found}
+
+-- a number of n bytes that stands between two lists
+number-between : (p q : List ℕ) (n x at : ℕ) → at ≡ length p → x < 2 ^ (8 * n) → number (p ++ (bytes n x ++ q)) at n ≡ x
+number-between p q n x at e small =
+    past-number p (bytes n x ++ q) n 0 at (omega arith)
+    ∙ front-number (bytes n x) q n 0 (omega (arith, length-bytes n x))
+    ∙ number-of-bytes n x
+    ∙ mod-eq-of-lt small
+
+module _ (m : Map) where
+  abbrev row : ℕ → List ℕ
+  row = rowBytes (m .counts) (m .neighbours)
+
+  abbrev rows : List ℕ
+  rows = each row (m .k)
+
+  abbrev check : ℕ
+  check = checkWord (sumWords (bodyOf m) 0 (wordCount (m .k) - 1))
+
+  -- all the words add to zero
+  sum-zero : sumWords (storedOf m) 0 (wordCount (m .k)) ≡ 0
+  unfolding sumWords storedOf
+  sum-zero =
+      let n = wordCount (m .k) - 1 in
+      let body = bodyOf m in
+      let last : wordCount (m .k) ≡ suc n = omega arith in
+      let check-read : number (body ++ bytes 4 check) (0 + 4 * n) 4 ≡ check =
+      past-number body (bytes 4 check) 4 0 (0 + 4 * n) (omega (arith, length-body m))
+      ∙ number-of-bytes 4 check
+      ∙ mod-eq-of-lt (check-small (sumWords body 0 n)) in
+      ap (sumWords (body ++ bytes 4 check) 0) last
+      ∙ ap₂ (λ (x y : ℕ). (x + y) % 2 ^ 32) (front-sum body (bytes 4 check) n 0 (omega (arith, length-body m))) check-read
+      ∙ check-zero (sumWords body 0 n) (sum-small body 0 n)
+
+  module _ (fits : Fits m) (ok : acceptance m ≡ accepted) (before : List ℕ) where
+    web : Web (rootOf (configOf m)) (m .k) (m .neighbours)
+    web = map-web m (ap isAccepted ok)
+
+    abbrev whole : List ℕ
+    whole = before ++ storedOf m
+
+    len : length whole ≡ length before + storedLength (m .k)
+    len = length-append before (storedOf m) ∙ omega (arith, length-stored m)
+
+    -- a number of n bytes, with what is stored before and after it
+    field : (p q : List ℕ) (n x at : ℕ) → storedOf m ≡ p ++ (bytes n x ++ q) → at ≡ length before + length p → x < 2 ^ (8 * n)
+        → number whole at n ≡ x
+    field p q n x at e place small =
+        ap (λ (l : List ℕ). number l at n) (ap (λ (l : List ℕ). before ++ l) e ∙ sym (append-assoc before p (bytes n x ++ q)))
+        ∙ number-between (before ++ p) q n x at (place ∙ sym (length-append before p)) small
+
+    stations-are : stationsIn whole ≡ m .k
+    unfolding storedOf bodyOf trailerBytes
+    stations-are =
+        field rows (bytes 2 rowLength ++ (bytes 4 (rowLength * m .k) ++ (bytes 4 (m .lot) ++ bytes 4 check))) 2 (m .k) _
+        (simp append-assoc) (omega (arith, len, length-rows m)) (omega (arith, web .few-stations))
+
+    row-is : rowLengthIn whole ≡ rowLength
+    unfolding storedOf bodyOf trailerBytes
+    row-is =
+        field (rows ++ bytes 2 (m .k)) (bytes 4 (rowLength * m .k) ++ (bytes 4 (m .lot) ++ bytes 4 check)) 2 rowLength _
+        (simp append-assoc) (simp (length-append, length-bytes) (omega (arith, len, length-rows m))) (omega arith)
+
+    distance-is : distanceIn whole ≡ rowLength * m .k
+    unfolding storedOf bodyOf trailerBytes
+    distance-is =
+        field (rows ++ (bytes 2 (m .k) ++ bytes 2 rowLength)) (bytes 4 (m .lot) ++ bytes 4 check) 4 (rowLength * m .k) _
+        (simp append-assoc) (simp (length-append, length-bytes) (omega (arith, len, length-rows m))) (omega (arith, web .few-stations))
+
+    lot-is : lotIn whole ≡ m .lot
+    unfolding storedOf bodyOf trailerBytes
+    lot-is =
+        field (rows ++ (bytes 2 (m .k) ++ (bytes 2 rowLength ++ bytes 4 (rowLength * m .k)))) (bytes 4 check) 4 (m .lot) _
+        (simp append-assoc) (simp (length-append, length-bytes) (omega (arith, len, length-rows m))) (fits .lot)
+
+    is-found : Found whole (m .k) (m .lot) (length before)
+    is-found =
+        let count : isStationCount (stationsIn whole) ≡ true =
+        ap isStationCount stations-are ∙ rw (lt-ltb 0 (m .k) (web .some-station), le-leb (m .k) 64 (web .few-stations)) in
+        found whole (omega (arith, len)) row-is count (distance-is ∙ ap (λ (k : ℕ). rowLength * k) (sym stations-are))
+        (m .k) (m .lot) (length before) (sym stations-are) (sym lot-is) (omega (arith, len, stations-are)) (omega (arith, len))
+
+    sum-is : sumWords whole (length before) (wordCount (m .k)) ≡ 0
+    sum-is = past-sum before (storedOf m) (wordCount (m .k)) 0 (length before) (omega arith) ∙ sum-zero
+
+    -- the two numbers of row i
+    module _ (i : ℕ) (h : i < m .k) where
+      abbrev rest : List ℕ
+      rest = each-split row (m .k) i h .0 ++ (trailerBytes (m .k) (m .lot) ++ bytes 4 check)
+
+      split : storedOf m ≡ each row i ++ (row i ++ rest)
+      unfolding storedOf bodyOf
+      split = ap (λ (l : List ℕ). l ++ trailerBytes (m .k) (m .lot) ++ bytes 4 check) (each-split row (m .k) i h .1) ∙ simp append-assoc
+
+      length-before : length (each row i) ≡ rowLength * i
+      length-before = length-each row rowLength (length-row (m .counts) (m .neighbours)) i
+
+    count-at : (i : ℕ) → i < m .k → number whole (length before + rowLength * i) 4 ≡ getD (m .counts) i 0
+    unfolding rowBytes
+    count-at i h =
+        field (each row i) (bytes 8 (getD (m .neighbours) i 0) ++ rest i h) 4 (getD (m .counts) i 0) _
+        (split i h ∙ simp append-assoc) (omega (arith, length-before i h)) (fits .counts i)
+
+    set-at : (i : ℕ) → i < m .k → number whole (length before + rowLength * i + 4) 8 ≡ getD (m .neighbours) i 0
+    unfolding rowBytes
+    set-at i h =
+        field (each row i ++ bytes 4 (getD (m .counts) i 0)) (rest i h) 8 (getD (m .neighbours) i 0) _
+        (split i h ∙ simp append-assoc) (simp (length-append, length-bytes) (omega (arith, length-before i h))) (fits .neighbours i)
+
+    map-is : mapAt whole (m .k) (m .lot) (length before) ≡ clearedOf m
+    map-is =
+        ap₂ (λ (x y : List ℕ). record { k = m .k; lot = m .lot; counts = x; neighbours = y })
+        (column-same _ _ (m .k) count-at) (column-same _ _ (m .k) set-at)
+
+    -- the sets below k are those of m
+    cleared-accepted : acceptance (clearedOf m) ≡ accepted
+    cleared-accepted =
+        web-accepted (rootOf (configOf m)) (m .k) (clearedOf m .neighbours)
+        (web-agree (rootOf (configOf m)) (m .k) (m .neighbours) (clearedOf m .neighbours)
+        (λ i h. sym (column-at (λ j. getD (m .neighbours) j 0) (m .k) i h)) web)
+
+    pub written-reads : reading whole ≡ acceptedAs (clearedOf m)
+    written-reads =
+        is-found .rest
+        ∙ rw (eq-eqb (sumWords whole (length before) (wordCount (m .k))) 0 sum-is)
+        (ap judged map-is ∙ rw (ap isAccepted cleared-accepted))

@@ -1,0 +1,72 @@
+-- `linemap::write` meets its contract: one law of `writing` and `written` for each way it ends. Assumes nothing.
+use mathlib.Core.Path.{_≡_, sym, ap, _∙_}
+use mathlib.Core.Bool.{true}
+use native.Mathlib.Omega.{arith}
+use borrow.Author.Needs.{needs}
+use Rattle.topology.specs.Answer.{isAccepted}
+use Rattle.topology.specs.Acceptance.{faultNumbers, verdictNumbers}
+use Rattle.linemap.specs.Maps.{acceptance}
+use Rattle.linemap.proofs.Accepted.{map-web}
+use Rattle.linemap.proofs.Rules.{unfit, too-short, fills}
+use Rattle.linemap.proofs.write.Statement.{statement}
+use Rattle.linemap.proofs.write.Tie as tie
+
+is-accepted : (c : tie.After-enum-told) → isAccepted (acceptance (c .before .before .before .before .args .m)) ≡ true
+is-accepted c = ap isAccepted (sym (c .before .before .accept .ensures) ∙ ap verdictNumbers (c .enum-told .given .1))
+
+accept-requires : tie.Need-accept-requires
+accept-requires c κs = search needs
+
+enum-known-verdict : tie.Need-enum-known-verdict
+enum-known-verdict c = search needs
+
+returns : tie.Need-returns
+returns c =
+    let given = c .before .verdict .given in
+    let start = c .before .before .before .before .before in
+    let told : faultNumbers (given .0 .0) ≡ acceptance (start .args .m) =
+    ap verdictNumbers (sym (given .1)) ∙ c .before .before .before .accept .ensures in
+    unfit (start .args .m) (start .args .buf .now) (given .0 .0) told
+
+enum-told : tie.Need-enum-told
+enum-told c = search needs
+
+cast-stored-length : tie.Need-cast-stored-length
+cast-stored-length c = search needs
+
+stored-length-requires : tie.Need-stored-length-requires
+stored-length-requires c κs =
+    map-web (c .before .before .before .before .before .args .m) (is-accepted (c .before)) .few-stations
+
+returns-2 : tie.Need-returns-2
+returns-2 c = too-short _ _ (is-accepted (c .before .before .before)) _ (c .before .stored-length .ensures) (c .if1 .taken)
+
+put-map-requires : tie.Need-put-map-requires
+put-map-requires c κs =
+    let start = c .before .before .before .before .before .before .before .before in
+    (map-web (start .args .m) (is-accepted (c .before .before .before .before)) .few-stations, omega (arith, c .before .before .stored-length .ensures))
+
+same-length : tie.Need-same-length
+same-length c = search needs
+
+returns-3 : tie.Need-returns-3
+returns-3 c =
+    fills _ _ (is-accepted (c .before .before .before .before .before .before .before)) _ _
+    (c .before .before .before .before .before .stored-length .ensures)
+    (c .before .before .before .before .if1 .left)
+    (c .before .before .put-map .ensures)
+
+pub write-spec : {M : Type 1} → statement M
+write-spec =
+    tie.close
+    (tie.spec
+    accept-requires
+    enum-known-verdict
+    returns
+    enum-told
+    cast-stored-length
+    stored-length-requires
+    returns-2
+    put-map-requires
+    same-length
+    returns-3)

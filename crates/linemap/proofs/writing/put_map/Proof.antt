@@ -1,0 +1,62 @@
+-- `linemap::writing::put_map` meets its contract: rows, trailer and check word, one right after the other. Assumes nothing.
+use borrow.Author.Needs.{needs}
+use Rattle.linemap.proofs.StoredForm.{stored-laid}
+use Rattle.linemap.proofs.writing.put_map.Statement.{statement}
+use Rattle.linemap.proofs.writing.put_map.Tie as tie
+
+cast-k : tie.Need-cast-k
+cast-k c = search needs
+
+put-rows-requires : tie.Need-put-rows-requires
+put-rows-requires c κs = search needs
+
+put-trailer-requires : tie.Need-put-trailer-requires
+put-trailer-requires c κs = search needs
+
+stored-length-requires : tie.Need-stored-length-requires
+stored-length-requires c κs = search needs
+
+sub-sum-words : tie.Need-sub-sum-words
+sub-sum-words c = search needs
+
+sum-words-requires : tie.Need-sum-words-requires
+sum-words-requires c κs = search needs
+
+sub-put : tie.Need-sub-put
+sub-put c = search needs
+
+check-word-requires : tie.Need-check-word-requires
+check-word-requires c κs = search needs
+
+put-requires : tie.Need-put-requires
+put-requires c κs = search needs
+
+same-length : tie.Need-same-length
+same-length c = search needs
+
+returns : tie.Need-returns
+returns c =
+    let start = c .before .before .before .before .before .before .before .before .before .before .before .before .before .before .before .before .before .before in
+    let need-is = c .before .before .before .before .before .before .before .stored-length .ensures in
+    stored-laid (start .args .m) (start .args .buf .now) (start .pre .1)
+    (c .before .before .before .before .before .before .before .before .before .before .before .before .before .before .put-rows .ensures)
+    (c .before .before .before .before .before .before .before .before .before .before .put-trailer .ensures)
+    (rw need-is at (c .before .before .before .before .before .sum-words .ensures))
+    (c .before .before .before .check-word .ensures)
+    (rw need-is at (c .before .before .put .ensures))
+
+pub put-map-spec : {M : Type 1} → statement M
+put-map-spec =
+    tie.close
+    (tie.spec
+    cast-k
+    put-rows-requires
+    put-trailer-requires
+    stored-length-requires
+    sub-sum-words
+    sum-words-requires
+    sub-put
+    check-word-requires
+    put-requires
+    same-length
+    returns)

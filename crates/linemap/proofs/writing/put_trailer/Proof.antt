@@ -1,0 +1,56 @@
+-- `linemap::writing::put_trailer` meets its contract: four numbers, one right after the other. Assumes nothing.
+use borrow.Author.Needs.{needs}
+use Rattle.linemap.proofs.StoredForm.{trailer-laid}
+use Rattle.linemap.proofs.writing.put_trailer.Statement.{statement}
+use Rattle.linemap.proofs.writing.put_trailer.Tie as tie
+
+mul-t : tie.Need-mul-t
+mul-t c = search needs
+
+put-requires : tie.Need-put-requires
+put-requires c κs = search needs
+
+add-put : tie.Need-add-put
+add-put c = search needs
+
+put-requires-2 : tie.Need-put-requires-2
+put-requires-2 c κs = search needs
+
+add-put-2 : tie.Need-add-put-2
+add-put-2 c = search needs
+
+put-requires-3 : tie.Need-put-requires-3
+put-requires-3 c κs = search needs
+
+add-put-3 : tie.Need-add-put-3
+add-put-3 c = search needs
+
+put-requires-4 : tie.Need-put-requires-4
+put-requires-4 c κs = search needs
+
+same-length : tie.Need-same-length
+same-length c = search needs
+
+returns : tie.Need-returns
+returns c =
+    let a = c .before .before .before .before .before .before .before .before .before .before .before .before .before .before .before .before .before .args in
+    trailer-laid (a .buf .now) (a .k) (a .lot)
+    (c .before .before .before .before .before .before .before .before .before .before .before .before .before .before .put .ensures)
+    (c .before .before .before .before .before .before .before .before .before .before .put2 .ensures)
+    (c .before .before .before .before .before .before .put3 .ensures)
+    (c .before .before .put4 .ensures)
+
+pub put-trailer-spec : {M : Type 1} → statement M
+put-trailer-spec =
+    tie.close
+    (tie.spec
+    mul-t
+    put-requires
+    add-put
+    put-requires-2
+    add-put-2
+    put-requires-3
+    add-put-3
+    put-requires-4
+    same-length
+    returns)

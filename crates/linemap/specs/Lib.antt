@@ -1,0 +1,7 @@
+pub mod Numbers
+pub mod Maps
+pub mod Stored
+pub mod Reading
+pub mod Writing
+pub mod RoundTrip
+pub mod Stages

@@ -1,0 +1,19 @@
+-- A line map by value, and the rules on one that is handed over (document 01, "The line map").
+use mathlib.Core.List.{List}
+use Prim.Native.Nat.{ℕ}
+use Rattle.aggregate.specs.declared.Config.{Config}
+use Rattle.aggregate.specs.Aggregate.{rootOf}
+use Rattle.topology.specs.Acceptance.{verdictOf, linksOf}
+use Rattle.linemap.specs.declared.Map.{Map}
+
+-- what a net on this map is opened with
+abbrev pub configOf : Map → Config
+configOf m = record { k = m .k }
+
+-- "a map handed over goes 3, 7 to 10" (Causes and numbers): the number with its values
+abbrev pub acceptance : Map → List ℕ
+acceptance m = verdictOf (rootOf (configOf m)) (m .k) (m .neighbours)
+
+-- "A link is an unordered pair; m counts them": 0 and m, or the number of the refusal
+abbrev pub linksIn : Map → List ℕ
+linksIn m = linksOf (rootOf (configOf m)) (m .k) (m .neighbours)

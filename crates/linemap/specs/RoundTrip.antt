@@ -1,0 +1,46 @@
+-- Writing and reading undo each other (document 01, "The line map": "the bytes it fills are what reads back. Equal maps agree in k,
+-- lot and all places below k"). `round-trips` (proofs/RoundTrips) proves both halves.
+use mathlib.Core.Path.{_≡_}
+use mathlib.Core.List.{List, _++_}
+use Prim.Native.Nat.{ℕ, _-_, _<_, _^_}
+use lib.ListN.{length, getD, drop}
+use Rattle.topology.specs.Answer.{accepted}
+use Rattle.linemap.specs.Maps.{acceptance}
+use Rattle.linemap.specs.Stored.{storedLength, storedOf}
+use Rattle.linemap.specs.Reading.{acceptedAs, column, reading}
+use Rattle.linemap.specs.declared.Map.{Map}
+
+-- each number fits its field, as in every map that code holds
+pub record Fits (m : Map) : Type 0 where
+  pub lot : m .lot < 2 ^ 32
+  pub counts : (i : ℕ) → getD (m .counts) i 0 < 2 ^ 32
+  pub neighbours : (i : ℕ) → getD (m .neighbours) i 0 < 2 ^ 64
+
+-- "Equal maps agree in k, lot and all places below k"
+pub record Equal (m n : Map) : Type 0 where
+  pub k : m .k ≡ n .k
+  pub lot : m .lot ≡ n .lot
+  pub counts : (i : ℕ) → i < m .k → getD (m .counts) i 0 ≡ getD (n .counts) i 0
+  pub neighbours : (i : ℕ) → i < m .k → getD (m .neighbours) i 0 ≡ getD (n .neighbours) i 0
+
+-- m with zero in the places k and above
+abbrev pub clearedOf : Map → Map
+clearedOf m =
+    record {
+      k = m .k;
+      lot = m .lot;
+      counts = column (λ i. getD (m .counts) i 0) (m .k);
+      neighbours = column (λ i. getD (m .neighbours) i 0) (m .k);
+    }
+
+pub record RoundTrips : Type 0 where
+  -- what is written reads back, whatever stands before it: the same k and lot, the same places below k, zero above
+  pub written-reads : (m : Map) → Fits m → acceptance m ≡ accepted → (before : List ℕ)
+      → reading (before ++ storedOf m) ≡ acceptedAs (clearedOf m)
+  -- which is a map equal to the one written
+  pub cleared-equal : (m : Map) → Equal (clearedOf m) m
+  -- equal maps are written the same
+  pub equal-written : (m n : Map) → Equal m n → storedOf m ≡ storedOf n
+  -- what is read is written back as the bytes it was read from
+  pub read-writes : (s : List ℕ) (m : Map) → ((i : ℕ) → getD s i 0 < 2 ^ 8) → reading s ≡ acceptedAs m
+      → storedOf m ≡ drop (length s - storedLength (m .k)) s

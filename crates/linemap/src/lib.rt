@@ -1,0 +1,132 @@
+// The line map and its stored form (document 01, "The line map"): read, accept, count links, write.
+use aggregate::Config;
+use topology::Fault;
+use topology::LinksAnswer;
+use topology::Verdict;
+ghost use mathlib.Core.Path.{_≡_};
+ghost use lib.ListN.{length};
+ghost use Prim.Native.Nat.{_≤_};
+ghost use Rattle.topology.specs.Acceptance;
+ghost use Rattle.linemap.specs.Maps;
+ghost use Rattle.linemap.specs.Stored;
+ghost use Rattle.linemap.specs.Reading;
+ghost use Rattle.linemap.specs.Writing;
+
+mod numbers;
+mod reading;
+mod writing;
+
+const ROW_LENGTH: usize = 12;
+
+const TRAILER_LENGTH: usize = 16;
+
+// A line map by value: the lot number, and each station's count and set of neighbours. Places k and above hold zero after reading.
+#[repr(C)]
+pub struct Map {
+    pub k: u8,
+    pub lot: u32,
+    pub counts: [u32; 64],
+    pub neighbours: [u64; 64],
+}
+
+// Why no map is read.
+pub enum ReadFault {
+    // Fewer bytes than a trailer has.
+    Short,
+    RowLength,
+    Distance,
+    // The rows start before the lent bytes.
+    Rows,
+    // The words do not add to zero.
+    CheckWord,
+    // The map is not accepted.
+    Unfit(Fault),
+}
+
+pub enum ReadAnswer {
+    Accepted,
+    Refused(ReadFault),
+}
+
+// The answer, and the map, which is all zero after a refusal.
+pub struct MapRead {
+    pub answer: ReadAnswer,
+    pub map: Map,
+}
+
+// Why no map is written.
+pub enum WriteFault {
+    Unfit(Fault),
+    // The buffer is too short: the length needed.
+    Buffer(usize),
+}
+
+// A map that was written fills so many bytes.
+pub enum WriteAnswer {
+    Written(usize),
+    Refused(WriteFault),
+}
+
+// The bytes that a map of k stations fills.
+fn stored_length(k: usize) -> usize
+    requires { ⌜ k ≤ 64 ⌝ }
+    ensures { λ r. ⌜ r ≡ Stored.storedLength k ⌝ }
+{
+    ROW_LENGTH * k + TRAILER_LENGTH
+}
+
+// What a net on this map is opened with.
+pub fn config(m: Map) -> Config
+    ensures { λ r. ⌜ r ≡ Maps.configOf m ⌝ }
+{
+    Config { k: m.k }
+}
+
+// The rules on a map handed over: 3, then 7 to 10.
+pub fn accept(m: Map) -> Verdict
+    ensures { λ r. ⌜ Acceptance.verdictNumbers r ≡ Maps.acceptance m ⌝ }
+{
+    let root = aggregate::root(config(m));
+    let sets = m.neighbours;
+    topology::accept(root, m.k, &sets)
+}
+
+// The number of links of an accepted map.
+pub fn links(m: Map) -> LinksAnswer
+    ensures { λ r. ⌜ Acceptance.linksNumbers r ≡ Maps.linksIn m ⌝ }
+{
+    let root = aggregate::root(config(m));
+    let sets = m.neighbours;
+    topology::links(root, m.k, &sets)
+}
+
+// The last map in s.
+pub fn read(s: &[u8]) -> MapRead
+    ensures { λ r. ⌜ Reading.outcomeOf r ≡ Reading.reading (now (s .entry)) ⌝ }
+{
+    let trailer = reading::read_trailer(s);
+    let reading::TrailerRead::Found { k, lot, start } = trailer else {
+        return reading::unread(reading::trailer_answer(trailer));
+    };
+    if numbers::sum_words(s, start, stored_length(k) / 4) != 0 {
+        return reading::unread(ReadAnswer::Refused(ReadFault::CheckWord));
+    }
+    reading::read_rows(s, k, lot, start)
+}
+
+// The stored form of m, from the first byte of buf.
+pub fn write(m: Map, buf: &mut [u8]) -> WriteAnswer
+    ensures answer { λ r. ⌜ Writing.writeNumbers r ≡ Writing.writing m (length (now (buf .entry))) ⌝ }
+    ensures bytes { λ _. ⌜ now (buf .exit) ≡ Writing.written m (now (buf .entry)) ⌝ }
+{
+    let verdict = accept(m);
+    if let Verdict::Refused(fault) = verdict {
+        return WriteAnswer::Refused(WriteFault::Unfit(fault));
+    }
+    let need = stored_length(m.k as usize);
+    if buf.len() < need {
+        return WriteAnswer::Refused(WriteFault::Buffer(need));
+    }
+    writing::put_map(m, buf);
+    WriteAnswer::Written(need)
+}

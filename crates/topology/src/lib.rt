@@ -1,0 +1,206 @@
+// Acceptance of a line map's sets of neighbours, and the number of its links (document 01, "The line map").
+use bitset::contains;
+use bitset::is_within;
+use bitset::size;
+ghost use mathlib.Core.Path.{_≡_};
+ghost use mathlib.Core.Bool.{cond};
+ghost use Prim.Native.Nat.{_<_, _≤_, _^_};
+ghost use Rattle.wave.specs.Graph;
+ghost use Rattle.topology.specs.Acceptance;
+ghost use Rattle.topology.specs.Parts;
+
+// Why a map is refused; a case holds the lowest offender.
+pub enum Fault {
+    // No station, or more than 64.
+    Stations,
+    // Its set names a station of k or more.
+    Beyond(u8),
+    Itself(u8),
+    // It names a station that does not name it.
+    OneWay(u8),
+    // No chain of links joins it to the root.
+    Apart(u8),
+}
+
+pub enum Verdict {
+    Accepted,
+    Refused(Fault),
+}
+
+pub enum LinksAnswer {
+    Counted(u32),
+    Refused(Fault),
+}
+
+// The rules over all stations; the last holds the set of those that a chain joins to the root.
+enum Rule {
+    Beyond,
+    Itself,
+    OneWay,
+    Apart(u64),
+}
+
+const MOST_STATIONS: u64 = 64;
+
+// Whether a map may have k stations.
+pub fn is_station_count(k: u64) -> bool
+    ensures { λ r. ⌜ r ≡ Acceptance.isStationCount k ⌝ }
+{
+    (0 < k) & (k <= MOST_STATIONS)
+}
+
+// Whether i names j, and j does not name i.
+fn is_one_sided(set: u64, other: u64, i: u8, j: u8) -> bool
+    ensures { λ r. ⌜ r ≡ Parts.oneSided set other i j ⌝ }
+{
+    contains(set, j) & !contains(other, i)
+}
+
+// Whether i names a station that does not name it.
+fn names_one_sided(k: u8, sets: &[u64; 64], i: u8) -> bool
+    requires { ⌜ (k ≤ 64) × (i < k) ⌝ }
+    ensures { λ r. ⌜ r ≡ Acceptance.namesOneSided k (now (sets .entry)) i ⌝ }
+{
+    let set = sets[i as usize];
+    let mut found = false;
+    let mut j: u8 = 0;
+    while j < k {
+        let other = sets[j as usize];
+        found = found | is_one_sided(set, other, i, j);
+        j += 1;
+    }
+    found
+}
+
+// Whether station i breaks the rule.
+fn is_broken(rule: Rule, k: u8, sets: &[u64; 64], i: u8) -> bool
+    requires { ⌜ (k ≤ 64) × (i < k) ⌝ }
+    ensures { λ r. ⌜ r ≡ Parts.breaks rule k (now (sets .entry)) i ⌝ }
+{
+    let set = sets[i as usize];
+    match rule {
+        Rule::Beyond => !is_within(set, k),
+        Rule::Itself => contains(set, i),
+        Rule::OneWay => names_one_sided(k, sets, i),
+        Rule::Apart(reached) => !contains(reached, i),
+    }
+}
+
+// The lowest station that breaks the rule; k where none does.
+fn find_lowest(rule: Rule, k: u8, sets: &[u64; 64]) -> u8
+    requires { ⌜ k ≤ 64 ⌝ }
+    ensures { λ r. ⌜ r ≡ Acceptance.lowest k (Parts.breaks rule k (now (sets .entry))) ⌝ }
+{
+    let mut i: u8 = 0;
+    while i < k {
+        if is_broken(rule, k, sets, i) {
+            return i;
+        }
+        i += 1;
+    }
+    k
+}
+
+// Whether i is the root, or has a neighbour that is reached.
+fn is_near(root: u8, set: u64, reached: u64, i: u8) -> bool
+    ensures { λ r. ⌜ r ≡ Parts.nearBy root set reached i ⌝ }
+{
+    (i == root) | !((reached & set) == 0)
+}
+
+fn bit_if(b: bool, i: u8) -> u64
+    requires { ⌜ i < 64 ⌝ }
+    ensures { λ r. ⌜ r ≡ cond b (2 ^ i) 0 ⌝ }
+{
+    if b { 1u64 << i } else { 0 }
+}
+
+// The root, and the stations with a neighbour that is reached.
+fn round(root: u8, k: u8, sets: &[u64; 64], reached: u64) -> u64
+    requires { ⌜ k ≤ 64 ⌝ }
+    ensures { λ r. ⌜ r ≡ Parts.roundOf root k (now (sets .entry)) reached ⌝ }
+{
+    let mut out: u64 = 0;
+    let mut i: u8 = 0;
+    while i < k {
+        let near = is_near(root, sets[i as usize], reached, i);
+        out += bit_if(near, i);
+        i += 1;
+    }
+    out
+}
+
+// The stations that a chain of links joins to the root.
+fn reach(root: u8, k: u8, sets: &[u64; 64]) -> u64
+    requires { ⌜ k ≤ 64 ⌝ }
+    ensures { λ r. ⌜ r ≡ Parts.reachedOf root k (now (sets .entry)) ⌝ }
+{
+    let mut reached: u64 = 0;
+    let mut t: u8 = 0;
+    while t < k {
+        reached = round(root, k, sets, reached);
+        t += 1;
+    }
+    reached
+}
+
+// The first rule that is broken, and by whom.
+pub fn accept(root: u8, k: u8, sets: &[u64; 64]) -> Verdict
+    ensures { λ r. ⌜ Acceptance.verdictNumbers r ≡ Acceptance.verdictOf root k (now (sets .entry)) ⌝ }
+{
+    if !is_station_count(k as u64) {
+        return Verdict::Refused(Fault::Stations);
+    }
+    let beyond = find_lowest(Rule::Beyond, k, sets);
+    if beyond < k {
+        return Verdict::Refused(Fault::Beyond(beyond));
+    }
+    let itself = find_lowest(Rule::Itself, k, sets);
+    if itself < k {
+        return Verdict::Refused(Fault::Itself(itself));
+    }
+    let one_way = find_lowest(Rule::OneWay, k, sets);
+    if one_way < k {
+        return Verdict::Refused(Fault::OneWay(one_way));
+    }
+    let reached = reach(root, k, sets);
+    let apart = find_lowest(Rule::Apart(reached), k, sets);
+    if apart < k {
+        return Verdict::Refused(Fault::Apart(apart));
+    }
+    Verdict::Accepted
+}
+
+// How many stations below i are in the set.
+fn count_below(set: u64, i: u8) -> u32
+    requires { ⌜ i < 64 ⌝ }
+    ensures { λ r. ⌜ r ≡ Parts.countBelow i set ⌝ }
+{
+    let low = set % (1u64 << i);
+    size(low) as u32
+}
+
+// The pairs of a station and a lower one that it names.
+fn count_links(k: u8, sets: &[u64; 64]) -> u32
+    requires { ⌜ k ≤ 64 ⌝ }
+    ensures { λ r. ⌜ r ≡ Graph.links k (Acceptance.linked k (now (sets .entry))) ⌝ }
+{
+    let mut total: u32 = 0;
+    let mut i: u8 = 0;
+    while i < k {
+        total += count_below(sets[i as usize], i);
+        i += 1;
+    }
+    total
+}
+
+// The number of links of an accepted map; any other is refused as `accept` refuses it.
+pub fn links(root: u8, k: u8, sets: &[u64; 64]) -> LinksAnswer
+    ensures { λ r. ⌜ Acceptance.linksNumbers r ≡ Acceptance.linksOf root k (now (sets .entry)) ⌝ }
+{
+    let verdict = accept(root, k, sets);
+    if let Verdict::Refused(fault) = verdict {
+        return LinksAnswer::Refused(fault);
+    }
+    LinksAnswer::Counted(count_links(k, sets))
+}
