@@ -83,7 +83,7 @@ module _ {Net : Type 0} (R : Rules Net) where
   draw-makes net d =
       by-sum (draw-cases net d) (λ w. rw (w .1) (nothing-made net)) (λ w. rw (w .1) (one-made net (w .0) (w .2)))
 
-  run-reaches : (net : Net) (ds : List ℕ) → Makes net (runMade R net ds) (runNet R net ds)
+  pub run-reaches : (net : Net) (ds : List ℕ) → Makes net (runMade R net ds) (runNet R net ds)
   unfolding runMade runNet Drawn
   run-reaches net [] = nothing-made net
   run-reaches net (d ∷ ds) =

@@ -7,6 +7,8 @@ use Rattle.refusal.specs.Refusal.{numberOf}
 use Rattle.schedule.specs.declared.Step.{Step}
 use Rattle.schedule.specs.declared.Answer.{Answer}
 use Rattle.schedule.specs.declared.Answer.the-variants.{Made, Refused}
+use Rattle.schedule.specs.declared.RunAnswer.{RunAnswer}
+use Rattle.schedule.specs.declared.RunAnswer.the-variants as run
 
 -- a single step or a draw: the step made stands in `made`, and nothing where it is refused
 pub record Outcome (Net : Type 0) : Type 0 where
@@ -32,3 +34,11 @@ pub record RunOutcome (Net : Type 0) : Type 0 where
   pub steps : ℕ
   pub rest : Bool
   pub net : Net
+
+-- the number of each answer of a run
+abbrev pub runNumberOf : RunAnswer → ℕ
+runNumberOf run.Stopped = 0
+runNumberOf (run.Refused r) = numberOf r
+
+abbrev pub runOutcomeOf : {Net : Type 0} → RunAnswer → ℕ → Bool → Net → RunOutcome Net
+runOutcomeOf answer steps rest net = record { number = runNumberOf answer; steps = steps; rest = rest; net = net }

@@ -19,12 +19,15 @@ pub record Rules (Net : Type 0) : Type 0 where
   -- the net after a step
   pub apply : Net → Step → Net
 
+-- "Number 12: kind not 1 to 4 (mail: 1 or 2), a station number not below k .., a report not at 0 and 0" (Causes and numbers)
+abbrev pub stepInRange : ℕ → ℕ → ℕ → ℕ → Step → Bool
+stepInRange kinds reports k root s =
+    leb 1 (s .kind) && leb (s .kind) kinds && ltb (s .sender) k && ltb (s .receiver) k
+    && (not (eqb (s .kind) reports) || eqb (s .sender) root && eqb (s .receiver) root)
+
 module _ {Net : Type 0} (R : Rules Net) where
-  -- "Number 12: kind not 1 to 4 (mail: 1 or 2), a station number not below k .., a report not at 0 and 0" (Causes and numbers)
   unfoldable pub inRange : Net → Step → Bool
-  inRange net s =
-      leb 1 (s .kind) && leb (s .kind) (R .kinds) && ltb (s .sender) (R .stations net) && ltb (s .receiver) (R .stations net)
-      && (not (eqb (s .kind) (R .reports)) || eqb (s .sender) (R .root net) && eqb (s .receiver) (R .root net))
+  inRange net s = stepInRange (R .kinds) (R .reports) (R .stations net) (R .root net) s
 
   -- the steps allowed: a report is one only at 0 and 0 (Stations that meet, the table)
   unfoldable pub allowed : Net → Step → Bool

@@ -13,3 +13,15 @@ pub enum Answer {
     Made(Step),
     Refused(Refusal),
 }
+
+// What a run answers, beside the net, the number of steps made and whether it is quiescent (01: at rest).
+pub enum RunAnswer {
+    Stopped,
+    Refused(Refusal),
+}
+
+// What a search for an entry of a list by its number finds: the entry, or, where the list is too short, how many entries are still to pass.
+pub enum Entry {
+    At(Step),
+    Beyond(u16),
+}

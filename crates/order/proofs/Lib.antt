@@ -1,0 +1,10 @@
+pub mod Kind
+pub mod Local
+pub mod View
+pub mod Meeting
+pub mod MeetingRefines
+pub mod Stations
+pub mod RendezvousSteps
+pub mod Rendezvous
+pub mod Maps
+pub mod RendezvousOrder

@@ -1,0 +1,31 @@
+-- What an answer says of the outcome that it stands for, over any kind of net: the step made, or none, and that the outcome pins the answer and
+-- the net, so that a contract which gives the outcome leaves nothing open. Assumes nothing.
+use mathlib.Core.Path.{_≡_, refl, sym, ap}
+use mathlib.Core.List.{[], _∷_}
+use Rattle.refusal.specs.declared.Refusal.{Refusal}
+use Rattle.refusal.proofs.Laws.{number-pins, number-not-zero}
+use Rattle.schedule.specs.declared.Step.{Step}
+use Rattle.schedule.specs.declared.Answer.{Answer}
+use Rattle.schedule.specs.declared.Answer.the-variants.{Made, Refused}
+use Rattle.schedule.specs.declared.RunAnswer.{RunAnswer}
+use Rattle.schedule.specs.declared.RunAnswer.the-variants as run
+use Rattle.schedule.specs.Outcome.{Outcome, outcomeOf, runNumberOf}
+
+module _ {A : Type 0} {a : Answer} {o : Outcome A} (net : A) (e : outcomeOf a net ≡ o) where
+  pub answer-made : {s : Step} → a ≡ Made s → (o .made ≡ s ∷ []) × (o .net ≡ net)
+  answer-made q = let f = rw q at e in (sym (ap (λ (x : Outcome A). x .made) f), sym (ap (λ (x : Outcome A). x .net) f))
+
+  pub answer-refused : {r : Refusal} → a ≡ Refused r → o .made ≡ []
+  answer-refused q = let f = rw q at e in sym (ap (λ (x : Outcome A). x .made) f)
+
+pub outcome-pins : {A : Type 0} (a b : Answer) (m n : A) → outcomeOf a m ≡ outcomeOf b n → (a ≡ b) × (m ≡ n)
+outcome-pins (Made s) (Made t) m n e = let made = ap (λ (x : Outcome _). x .made) e in (cc, ap (λ (x : Outcome _). x .net) e)
+outcome-pins (Made s) (Refused r) m n e = absurd (number-not-zero r (sym (ap (λ (x : Outcome _). x .number) e)))
+outcome-pins (Refused r) (Made s) m n e = absurd (number-not-zero r (ap (λ (x : Outcome _). x .number) e))
+outcome-pins (Refused q) (Refused r) m n e = (ap Refused (number-pins q r (ap (λ (x : Outcome _). x .number) e)), ap (λ (x : Outcome _). x .net) e)
+
+pub run-answer-pins : (a b : RunAnswer) → runNumberOf a ≡ runNumberOf b → a ≡ b
+run-answer-pins run.Stopped run.Stopped e = refl
+run-answer-pins run.Stopped (run.Refused r) e = absurd (number-not-zero r (sym e))
+run-answer-pins (run.Refused r) run.Stopped e = absurd (number-not-zero r e)
+run-answer-pins (run.Refused q) (run.Refused r) e = ap run.Refused (number-pins q r e)

@@ -1,0 +1,199 @@
+-- Each step is the events of its stations. In a well-formed net the processes are well-formed and what they are handed is in range, so an event
+-- is accepted just where its guard holds; Guards says that the guards make Figure 2's conditions. Assumes nothing.
+use mathlib.Core.Path.{_≡_, refl, sym, _∙_, ap}
+use mathlib.Core.Bool.{Bool, true, false, not, _&&_, _||_, and-true, and-false, and-comm}
+use Prim.Native.Nat.{ℕ, _<_}
+use native.Mathlib.Omega.{arith}
+use lib.ListN.{length}
+use lib.Seq.{getD-set-same}
+use lib.Dec.{eqb}
+use borrow.Author.Tests.{lt-ltb, eq-eqb, ne-eqb, eqb-true, eqb-false, not-true}
+use Rattle.finite.proofs.Cases.{by-bool, by-eq, and-both, or-left, or-right}
+use Rattle.bitset.proofs.Laws.{within-lt, within-width}
+use Rattle.aggregate.specs.declared.Config.{Config}
+use Rattle.aggregate.specs.declared.Aggregate.{Aggregate}
+use Rattle.aggregate.specs.Aggregate.{rootOf, bounded, joined}
+use Rattle.aggregate.proofs.Laws.{bounded-lt, lt-bounded, nothing-bounded, same-sum, sum-joined, root-below}
+use Rattle.station.specs.declared.Station.{Station}
+use Rattle.station.specs.declared.Process.{Process}
+use Rattle.station.specs.Events.{asleep, active, maySendStart, startSent, answerTaken, startedBy, mayReport, mayAnswer, ready, ended}
+use Rattle.station.specs.Form.{configOf, wellFormedProcess}
+use Rattle.station.specs.Process.{Outcome, decide, takeStart, sendStart, takeAnswer, sendAnswer}
+use Rattle.station.specs.Process as process
+use Rattle.station.proofs.Formed.{facts, well-formed}
+use Rattle.stations.specs.Stations.{outside}
+use Rattle.stations.proofs.Laws.{config-valid}
+use Rattle.rendezvous.specs.declared.Net.{Net}
+use Rattle.rendezvous.specs.Net.{station, wellFormed, withTwo}
+use Rattle.rendezvous.specs.Figure.{wake, pass, answer, report, applied}
+use Rattle.rendezvous.specs.Together.{processAt, isAccepted, may, Together, Alone, StepsAreEvents}
+use Rattle.rendezvous.proofs.Guards.{wake-guard, pass-guard, answer-guard, report-guard}
+use Rattle.rendezvous.proofs.Laws.{k-most, formed-at}
+use Rattle.rendezvous.proofs.Places.{two-sender, two-receiver}
+
+-- an event is accepted just where its guard holds, and then leaves the station s
+record Event (o : Outcome) (guard : Bool) (s : Station) : Type 0 where
+  accepted : isAccepted o ≡ guard
+  leaves : guard ≡ true → o .process .station ≡ s
+
+decided : (form range guard : Bool) (p : Process) (o : Outcome) → form ≡ true → range ≡ true → o .number ≡ 0
+    → Event (decide form range guard p o) guard (o .process .station)
+unfolding decide
+decided form range true p o f r z = rw (f, r) (record { accepted = eq-eqb (o .number) 0 z; leaves = λ g. refl })
+decided form range false p o f r z = rw (f, r) (record { accepted = refl; leaves = λ g. cc })
+
+-- the tests of a start and of an answer, as Guards and as Together order them
+start-together : (state may apart takes : Bool) → (state ≡ true → takes ≡ true) → (state && (may && apart)) ≡ (apart && state && may && takes)
+start-together true m n takes h = rw (h refl) (and-comm m n ∙ simp and-true)
+start-together false m n takes h = simp and-false
+
+answer-together : (state may apart parent : Bool) → (state && (may && apart && parent)) ≡ (apart && parent && may && state)
+answer-together true true n p = sym (simp and-true)
+answer-together true false n p = sym (simp and-false)
+answer-together false m n p = sym (simp and-false)
+
+eqb-comm : (a b : ℕ) → eqb a b ≡ eqb b a
+eqb-comm a b = by-eq a b (λ e. eq-eqb a b e ∙ sym (eq-eqb b a (sym e))) (λ n. ne-eqb a b n ∙ sym (ne-eqb b a (λ e. n (sym e))))
+
+-- joining asks nothing of what the net was opened with
+joined-alike : (t u : Config) (a b : Aggregate) → joined t a b ≡ joined u a b
+joined-alike t u a b = same-sum _ _ (sum-joined t a b ∙ sym (sum-joined u a b))
+
+module _ (net : Net) (f : wellFormed net ≡ true) (full : length (net .stations) ≡ 64) where
+  -- a station of the net is a well-formed process of its own: 64 stands for k
+  process-formed : (i : ℕ) → i < net .config .k → wellFormedProcess (processAt net i) ≡ true
+  unfolding wellFormedProcess rootOf
+  process-formed i l =
+      let t = net .config in
+      let most = k-most net f in
+      let w = facts t i (station net i) (formed-at net f i l) in
+      let inside : i < 64 = omega arith in
+      rw (lt-ltb i 64 inside)
+      (well-formed (configOf (processAt net i)) i (station net i)
+      (record {
+        state-le = w .state-le;
+        parent-below = omega (arith, w .parent-below);
+        set-within = within-width (t .k) 64 (station net i .unstarted) (within-lt (t .k) (station net i .unstarted) (w .set-within)) most;
+        waits-le = w .waits-le;
+        held-bounded = lt-bounded (configOf (processAt net i)) (station net i .held) (bounded-lt t (station net i .held) (w .held-bounded));
+        not-in-set = w .not-in-set;
+        own-parent = w .own-parent;
+      }))
+
+  module _ (j i : ℕ) (lj : j < net .config .k) (li : i < net .config .k) where
+    j-inside : j < 64
+    j-inside = omega (arith, k-most net f)
+
+    i-inside : i < 64
+    i-inside = omega (arith, k-most net f)
+
+    sends-start : Event (sendStart i (processAt net j)) (maySendStart i (station net j)) (startSent i (station net j))
+    unfolding sendStart
+    sends-start = decided _ _ _ _ _ (process-formed j lj) (lt-ltb i 64 i-inside) refl
+
+    takes-start : Event (takeStart j (processAt net i)) (eqb (station net i .state) asleep || eqb (station net i .state) active) (startedBy j (station net i))
+    unfolding takeStart
+    takes-start = decided _ _ _ _ _ (process-formed i li) (lt-ltb j 64 j-inside) refl
+
+    -- a step whose two events are accepted by the guards a and b, and leave s and r
+    together : (kind : ℕ) (fit a b : Bool) (sends takes : Outcome) (s r : Station) → Event sends a s → Event takes b r
+        → may net kind j i ≡ (not (eqb i j) && fit && a && b)
+        → (may net kind j i ≡ true → applied net kind j i ≡ withTwo net j s i r)
+        → Together net kind j i fit sends takes
+    together kind fit a b sends takes s r es et guard effect =
+        record {
+          allowed = rw (es .accepted, et .accepted) guard;
+          sender = λ m.
+              let parts = and-both (not (eqb i j) && fit && a) b (sym guard ∙ m) in
+              let firsts = and-both (not (eqb i j) && fit) a (parts .0) in
+              let apart : j ≡ i → ⊥ = λ e. eqb-false i j (not-true (eqb i j) (and-both (not (eqb i j)) fit (firsts .0) .0)) (sym e) in
+              ap (λ (n : Net). station n j) (effect m) ∙ two-sender net j i s r (rw full j-inside) apart ∙ sym (es .leaves (firsts .1));
+          receiver = λ m.
+              let parts = and-both (not (eqb i j) && fit && a) b (sym guard ∙ m) in
+              ap (λ (n : Net). station n i) (effect m) ∙ two-receiver net j i s r (rw full i-inside) ∙ sym (et .leaves (parts .1));
+        }
+
+    -- wake and pass: a start to a receiver in the state of the kind
+    started : (kind : ℕ) (state : Bool) → may net kind j i ≡ (state && (maySendStart i (station net j) && not (eqb i j)))
+        → (state ≡ true → (eqb (station net i .state) asleep || eqb (station net i .state) active) ≡ true)
+        → (state ≡ true → applied net kind j i ≡ withTwo net j (startSent i (station net j)) i (startedBy j (station net i)))
+        → Together net kind j i state (sendStart i (processAt net j)) (takeStart j (processAt net i))
+    started kind state guard takes effect =
+        let start = maySendStart i (station net j) in
+        together kind state start (eqb (station net i .state) asleep || eqb (station net i .state) active) _ _ _ _ sends-start takes-start
+        (guard ∙ start-together state start (not (eqb i j)) _ takes)
+        (λ m. effect (and-both state (start && not (eqb i j)) (sym guard ∙ m) .0))
+
+    wakes : Together net wake j i (eqb (station net i .state) asleep) (sendStart i (processAt net j)) (takeStart j (processAt net i))
+    unfolding applied startedBy
+    wakes =
+        started wake (eqb (station net i .state) asleep) (wake-guard (net .config) j i (station net j) (station net i))
+        (λ e. or-left (eqb (station net i .state) asleep) (eqb (station net i .state) active) e)
+        (λ (e : eqb (station net i .state) asleep ≡ true). rw e)
+
+    passes : Together net pass j i (eqb (station net i .state) active) (sendStart i (processAt net j)) (takeStart j (processAt net i))
+    unfolding applied startedBy
+    passes =
+        started pass (eqb (station net i .state) active) (pass-guard (net .config) j i (station net j) (station net i))
+        (λ e. or-right (eqb (station net i .state) asleep) (eqb (station net i .state) active) e)
+        (λ e. let up : eqb (station net i .state) asleep ≡ false = rw (eqb-true (station net i .state) active e) in rw up)
+
+    -- an answer gives the sum of its sender
+    sends-answer : Event (sendAnswer (processAt net j)) (mayAnswer (net .config) j (station net j)) (ended (station net j))
+    unfolding sendAnswer mayAnswer rootOf
+    sends-answer = decided _ _ _ _ _ (process-formed j lj) refl refl
+
+    given-held : mayAnswer (net .config) j (station net j) ≡ true → sendAnswer (processAt net j) .given ≡ station net j .held
+    unfolding sendAnswer decide mayAnswer rootOf
+    given-held g = rw (process-formed j lj, g)
+
+    given-bounded : bounded (configOf (processAt net i)) (sendAnswer (processAt net j) .given) ≡ true
+    unfolding sendAnswer decide mayAnswer rootOf
+    given-bounded =
+        let t = configOf (processAt net i) in
+        let held = facts (net .config) j (station net j) (formed-at net f j lj) .held-bounded in
+        by-bool (mayAnswer (net .config) j (station net j))
+        (λ g. rw (process-formed j lj, g) (lt-bounded t (station net j .held) (bounded-lt (net .config) (station net j .held) held)))
+        (λ g. rw (process-formed j lj, g) (nothing-bounded t))
+
+    takes-answer : let v = sendAnswer (processAt net j) .given in
+        Event (takeAnswer v (processAt net i)) (eqb (station net i .state) active) (answerTaken (configOf (processAt net i)) v (station net i))
+    unfolding takeAnswer
+    takes-answer = decided _ _ _ _ _ (process-formed i li) given-bounded refl
+
+    answers : let sends = sendAnswer (processAt net j) in
+        Together net answer j i (eqb (station net j .parent) i) sends (takeAnswer (sends .given) (processAt net i))
+    unfolding applied
+    answers =
+        let s = station net j in
+        let r = station net i in
+        let state = eqb (r .state) active in
+        let guard = answer-guard (net .config) j i s r ∙ answer-together state (mayAnswer (net .config) j s) (not (eqb j i)) (eqb (s .parent) i) in
+        together answer (eqb (s .parent) i) (mayAnswer (net .config) j s) state _ _ _ _ sends-answer takes-answer
+        (rw (eqb-comm i j) guard)
+        (λ m.
+        let given = given-held (and-both (not (eqb j i) && eqb (s .parent) i) (mayAnswer (net .config) j s) (and-both (not (eqb j i) && eqb (s .parent) i && mayAnswer (net .config) j s) state (sym guard ∙ m) .0) .1) in
+        rw (given, joined-alike (net .config) (configOf (processAt net i)) (r .held) (s .held)))
+
+  root-inside : rootOf (net .config) < net .config .k
+  unfolding wellFormed
+  root-inside = root-below (net .config) (config-valid (net .config) (net .stations) f)
+
+  reports-event : let root = rootOf (net .config) in Event (process.report (processAt net root)) (ready (station net root)) (ended (station net root))
+  unfolding process.report mayReport rootOf
+  reports-event = decided _ _ _ _ _ (process-formed (rootOf (net .config)) root-inside) refl refl
+
+  reports : Alone net report (rootOf (net .config)) (process.report (processAt net (rootOf (net .config))))
+  unfolding applied
+  reports =
+      let root = rootOf (net .config) in
+      let inside : root < 64 = omega (arith, k-most net f, root-inside) in
+      let guard = report-guard (net .config) root root (station net root) (station net root) in
+      record {
+        allowed = guard ∙ sym (reports-event .accepted);
+        reporter = λ m. getD-set-same (net .stations) root (ended (station net root)) outside (rw full inside) ∙ sym (reports-event .leaves (sym guard ∙ m));
+      }
+
+-- "Each step is the sender's event and the receiver's together" (document 01, Stations that meet), in a well-formed net of 64 places
+pub steps-are-events : (net : Net) → wellFormed net ≡ true → length (net .stations) ≡ 64 → StepsAreEvents net
+steps-are-events net f full = record { wakes = wakes net f full; passes = passes net f full; answers = answers net f full; reports = reports net f full }

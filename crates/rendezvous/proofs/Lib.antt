@@ -1,0 +1,6 @@
+pub mod Answers
+pub mod Guards
+pub mod Laws
+pub mod Places
+pub mod Events
+pub mod Examples

@@ -1,0 +1,65 @@
+-- What a step leaves at each place of the net: two stations are replaced, the others and what the net was opened with stay, so no list of calls
+-- touches a place past k. Assumes nothing.
+use mathlib.Core.Path.{_≡_, refl, _∙_, ap}
+use mathlib.Core.List.{List, [], _∷_}
+use Prim.Native.Nat.{ℕ, _≤_, _<_}
+use native.Mathlib.Omega.{arith}
+use lib.ListN.{length, set, length-set}
+use lib.Seq.{getD-set-same, getD-set-other}
+use lib.Dec.{eqb}
+use Rattle.finite.proofs.Cases.{by-bool}
+use Rattle.wave.specs.Claim.{Runs, reached}
+use Rattle.station.specs.declared.Station.{Station}
+use Rattle.schedule.specs.declared.Step.{Step}
+use Rattle.schedule.specs.Calls.{Call, callsMade, callsNet}
+use Rattle.schedule.proofs.Listing.{range-bounds, listed-allowed}
+use Rattle.schedule.proofs.Made.{Listed, calls-make}
+use Rattle.stations.specs.Stations.{outside}
+use Rattle.rendezvous.specs.declared.Net.{Net}
+use Rattle.rendezvous.specs.Net.{station, withTwo}
+use Rattle.rendezvous.specs.Figure.{wake, pass, answer, applied}
+use Rattle.rendezvous.specs.Rules.{rules}
+use Rattle.rendezvous.proofs.Laws.{in-range}
+
+-- two stations replaced
+module _ (net : Net) (j i : ℕ) (s r : Station) where
+  pub two-sender : j < length (net .stations) → (j ≡ i → ⊥) → station (withTwo net j s i r) j ≡ s
+  two-sender l apart = getD-set-other (set (net .stations) j s) i j r outside apart ∙ getD-set-same (net .stations) j s outside l
+
+  pub two-receiver : i < length (net .stations) → station (withTwo net j s i r) i ≡ r
+  two-receiver l = getD-set-same (set (net .stations) j s) i r outside (simp length-set l)
+
+  two-other : (x : ℕ) → (x ≡ j → ⊥) → (x ≡ i → ⊥) → station (withTwo net j s i r) x ≡ station net x
+  two-other x p q = getD-set-other (set (net .stations) j s) i x r outside q ∙ getD-set-other (net .stations) j x s outside p
+
+module _ (net : Net) (kind j i : ℕ) where
+  pub config-kept : applied net kind j i .config ≡ net .config
+  unfolding applied
+  config-kept =
+      by-bool (eqb kind wake) (λ w. rw w)
+      (λ w. by-bool (eqb kind pass) (λ p. rw (w, p))
+      (λ p. by-bool (eqb kind answer) (λ a. rw (w, p, a)) (λ a. rw (w, p, a))))
+
+  -- all stations but the sender and the receiver are untouched
+  pub other-kept : (x : ℕ) → (x ≡ j → ⊥) → (x ≡ i → ⊥) → station (applied net kind j i) x ≡ station net x
+  unfolding applied
+  other-kept x n m =
+      by-bool (eqb kind wake) (λ w. rw w (two-other net j i _ _ x n m))
+      (λ w. by-bool (eqb kind pass) (λ p. rw (w, p) (two-other net j i _ _ x n m))
+      (λ p. by-bool (eqb kind answer) (λ a. rw (w, p, a) (two-other net j i _ _ x n m))
+      (λ a. rw (w, p, a) (getD-set-other (net .stations) j x _ outside n))))
+
+steps-kept : (steps : List Step) (net : Net) (x : ℕ) → net .config .k ≤ x → Runs (Listed rules) (rules .apply) net steps
+    → station (reached (rules .apply) net steps) x ≡ station net x
+steps-kept [] net x past runs = refl
+steps-kept (s ∷ l) net x past runs =
+    let b = range-bounds rules net s (in-range net s (listed-allowed rules net s (runs .0 .1))) in
+    let config = config-kept net (s .kind) (s .sender) (s .receiver) in
+    steps-kept l (rules .apply net s) x (rw config past) (runs .1)
+    ∙ other-kept net (s .kind) (s .sender) (s .receiver) x (λ e. omega (arith, b .sender-low)) (λ e. omega (arith, b .receiver-low))
+
+-- "Places past k are untouched" (document 01, Causes and numbers), by any list of steps, draws and runs
+pub past-kept : (net : Net) (calls : List Call) (x : ℕ) → net .config .k ≤ x → station (callsNet rules net calls) x ≡ station net x
+past-kept net calls x past =
+    let made = calls-make rules net calls in
+    ap (λ (n : Net). station n x) (made .ends) ∙ steps-kept (callsMade rules net calls) net x past (made .runs)

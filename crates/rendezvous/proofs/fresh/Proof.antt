@@ -1,0 +1,57 @@
+-- `rendezvous::fresh` meets its contract: the verdict's numbers are those of the map's acceptance, which decide the net. Assumes nothing.
+use mathlib.Core.Path.{_≡_, sym, _∙_, ap}
+use borrow.Author.Needs.{needs}
+use Rattle.topology.specs.Acceptance.{faultNumbers, verdictNumbers}
+use Rattle.topology.specs.Answer as answer
+use Rattle.topology.proofs.Answers.{fault-refuses}
+use Rattle.linemap.specs.Maps.{acceptance}
+use Rattle.rendezvous.specs.Net.{freshNet}
+use Rattle.rendezvous.specs.Opening.{opening}
+use Rattle.rendezvous.proofs.fresh.Statement.{statement}
+use Rattle.rendezvous.proofs.fresh.Tie as tie
+
+accept-requires : tie.Need-accept-requires
+accept-requires c κs = search needs
+
+enum-known-verdict : tie.Need-enum-known-verdict
+enum-known-verdict c = search needs
+
+unopened-requires : tie.Need-unopened-requires
+unopened-requires c κs = search needs
+
+returns : tie.Need-returns
+unfolding opening
+returns c =
+    let fault = c .before .before .verdict .given .0 .0 in
+    let numbers : acceptance (c .before .before .before .before .before .args .m) ≡ faultNumbers fault =
+    sym (c .before .before .before .before .accept .ensures) ∙ ap verdictNumbers (c .before .before .verdict .given .1) in
+    rw (numbers, fault-refuses fault, c .unopened .ensures)
+
+enum-told : tie.Need-enum-told
+enum-told c = search needs
+
+config-requires : tie.Need-config-requires
+config-requires c κs = search needs
+
+fresh-stations-requires : tie.Need-fresh-stations-requires
+fresh-stations-requires c κs = search needs
+
+returns-2 : tie.Need-returns-2
+unfolding opening freshNet
+returns-2 c =
+    let numbers : acceptance (c .before .before .before .before .before .before .before .args .m) ≡ answer.accepted =
+    sym (c .before .before .before .before .before .before .accept .ensures) ∙ ap verdictNumbers (c .before .before .before .before .enum-told .given .1) in
+    rw (numbers, c .fresh-stations .ensures, c .before .before .before .config .ensures)
+
+pub fresh-spec : {M : Type 1} → statement M
+fresh-spec =
+    tie.close
+    (tie.spec
+    accept-requires
+    enum-known-verdict
+    unopened-requires
+    returns
+    enum-told
+    config-requires
+    fresh-stations-requires
+    returns-2)

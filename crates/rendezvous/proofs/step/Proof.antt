@@ -1,0 +1,124 @@
+-- `rendezvous::step` meets its contract: each return is an outcome of `stepOn` by the tests that lead to it. Assumes nothing.
+use mathlib.Core.Path.{_≡_, sym, _∙_}
+use mathlib.Core.Bool.{true}
+use Prim.Native.Nat.{_<_}
+use borrow.Author.Needs.{needs}
+use borrow.Author.Tests.{not-true, not-false}
+use Rattle.schedule.specs.Rules.{inRange, allowed}
+use Rattle.schedule.proofs.Outcomes.{step-unformed, step-outside, step-barred, step-taken}
+use Rattle.rendezvous.specs.Net.{wellFormed}
+use Rattle.rendezvous.specs.Rules.{rules}
+use Rattle.rendezvous.proofs.Laws.{places}
+use Rattle.rendezvous.proofs.step.Statement.{statement}
+use Rattle.rendezvous.proofs.step.Tie as tie
+
+-- past the first test
+formed : (c : tie.Else1) → wellFormed (c .before .before .args .t1) ≡ true
+formed c = sym (c .before .is-well-formed .ensures) ∙ not-false _ (c .if1 .left)
+
+-- past the second
+ranged : (c : tie.Else2) → let a = c .before .before .before .before .before .args in inRange rules (a .t1) (a .step) ≡ true
+unfolding inRange
+ranged c = sym (c .before .is-in-range .ensures) ∙ not-false _ (c .if2 .left)
+
+low : (c : tie.Else2) → let a = c .before .before .before .before .before .args in (a .step .sender < 64) × (a .step .receiver < 64)
+low c =
+    let a = c .before .before .before .before .before .args in
+    places (a .t1) (formed (c .before .before .before)) (a .step) (ranged c)
+
+-- past the third
+guarded : (c : tie.Else3) → let a = c .before .before .before .before .before .before .before .before .before .before .before .args in rules .guard (a .t1) (a .step) ≡ true
+guarded c = sym (c .before .may-step .ensures) ∙ not-false _ (c .if3 .left)
+
+is-well-formed-requires : tie.Need-is-well-formed-requires
+is-well-formed-requires c κs = search needs
+
+refuse-requires : tie.Need-refuse-requires
+refuse-requires c κs = search needs
+
+returns : tie.Need-returns
+returns c =
+    let a = c .before .before .before .args in
+    c .refuse .ensures
+    ∙ sym (step-unformed rules (a .t1) (a .step) (sym (c .before .before .is-well-formed .ensures) ∙ not-true _ (c .before .if1 .taken)))
+
+is-in-range-requires : tie.Need-is-in-range-requires
+is-in-range-requires c κs = search needs
+
+refuse-requires-2 : tie.Need-refuse-requires-2
+refuse-requires-2 c κs = search needs
+
+returns-2 : tie.Need-returns-2
+unfolding inRange
+returns-2 c =
+    let a = c .before .before .before .before .before .before .args in
+    c .refuse2 .ensures
+    ∙ sym (step-outside rules (a .t1) (a .step) (formed (c .before .before .before .before)) (sym (c .before .before .is-in-range .ensures) ∙ not-true _ (c .before .if2 .taken)))
+
+cast-sender : tie.Need-cast-sender
+cast-sender c = search needs
+
+cast-receiver : tie.Need-cast-receiver
+cast-receiver c = search needs
+
+mul-s : tie.Need-mul-s
+mul-s c = search needs
+
+element-copy-out-s : tie.Need-element-copy-out-s
+element-copy-out-s c = low (c .before .before) .0
+
+mul-r : tie.Need-mul-r
+mul-r c = search needs
+
+element-copy-out-r : tie.Need-element-copy-out-r
+element-copy-out-r c = low (c .before .before .before) .1
+
+may-step-requires : tie.Need-may-step-requires
+may-step-requires c κs = search needs
+
+refuse-requires-3 : tie.Need-refuse-requires-3
+refuse-requires-3 c κs = search needs
+
+returns-3 : tie.Need-returns-3
+returns-3 c =
+    let second = c .before .before .before .before .before .before .before in
+    let first = second .before .before .before in
+    let a = first .before .before .args in
+    c .refuse3 .ensures
+    ∙ sym (step-barred rules (a .t1) (a .step) (formed first) (ranged second) (sym (c .before .before .may-step .ensures) ∙ not-true _ (c .before .if3 .taken)))
+
+make-requires : tie.Need-make-requires
+unfolding allowed
+make-requires c κs =
+    let second = c .before .before .before .before .before .before in
+    (formed (second .before .before .before), rw (ranged second) (guarded c))
+
+returns-4 : tie.Need-returns-4
+returns-4 c =
+    let third = c .before in
+    let second = third .before .before .before .before .before .before in
+    let first = second .before .before .before in
+    let a = first .before .before .args in
+    c .make .ensures ∙ sym (step-taken rules (a .t1) (a .step) (formed first) (ranged second) (guarded third))
+
+pub step-spec : {M : Type 1} → statement M
+step-spec =
+    tie.close
+    (tie.spec
+    is-well-formed-requires
+    refuse-requires
+    returns
+    is-in-range-requires
+    refuse-requires-2
+    returns-2
+    cast-sender
+    cast-receiver
+    mul-s
+    element-copy-out-s
+    mul-r
+    element-copy-out-r
+    may-step-requires
+    refuse-requires-3
+    returns-3
+    make-requires
+    returns-4)

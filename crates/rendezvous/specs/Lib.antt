@@ -1,0 +1,5 @@
+pub mod Net
+pub mod Figure
+pub mod Rules
+pub mod Together
+pub mod Opening

@@ -1,0 +1,28 @@
+-- The net of stations that meet: its stations, its form and the fresh net (document 01, "Stations that meet").
+use mathlib.Core.Bool.{Bool}
+use mathlib.Core.List.{List}
+use Prim.Native.Nat.{ℕ}
+use lib.ListN.{set}
+use Rattle.aggregate.specs.declared.Config.{Config}
+use Rattle.station.specs.declared.Station.{Station}
+use Rattle.stations.specs.Stations.{stationAt, areWellFormed, freshStations}
+use Rattle.rendezvous.specs.declared.Net.{Net}
+
+-- station i of the net
+abbrev pub station : Net → ℕ → Station
+station net i = stationAt (net .stations) i
+
+-- the net with station i, or j and i, replaced: nothing else changes, so "places past k are untouched"
+abbrev pub withOne : Net → ℕ → Station → Net
+withOne net i s = record { config = net .config; stations = set (net .stations) i s }
+
+abbrev pub withTwo : Net → ℕ → Station → ℕ → Station → Net
+withTwo net j s i r = record { config = net .config; stations = set (set (net .stations) j s) i r }
+
+-- "Form (11)" (Causes and numbers)
+unfoldable pub wellFormed : Net → Bool
+wellFormed net = areWellFormed (net .config) (net .stations)
+
+-- "Fresh: .." (Stations that meet): of counts and neighbours, which a map has
+unfoldable pub freshNet : Config → List ℕ → List ℕ → Net
+freshNet t counts neighbours = record { config = t; stations = freshStations t counts neighbours }

@@ -1,0 +1,156 @@
+-- Laws of the parts of the list of steps: one more kind, sender or receiver, entries by number, and lengths. Assumes nothing.
+use mathlib.Core.Bool.{Bool, true, false}
+use mathlib.Core.Path.{_≡_, refl, sym, _∙_, ap}
+use mathlib.Core.List.{List, [], _∷_, _++_, flatMap}
+use Prim.Native.Nat.{ℕ, zero, suc, _+_, _-_, _*_, _≤_, _<_}
+use native.Mathlib.Nat.{suc-mul, zero-mul}
+use native.Mathlib.Numerals.{add-one}
+use native.Mathlib.Omega.{arith}
+use lib.ListN.{length, getD, length-append, length-map}
+use Rattle.schedule.specs.declared.Step.{Step}
+use Rattle.schedule.specs.declared.Entry.the-variants.{At, Beyond}
+use Rattle.schedule.specs.Listing.{count, range, keepIf, select, step, candidates}
+use Rattle.schedule.specs.Scan.{stepsFrom, stepsOfKind, stepsOf, entry}
+
+pub candidates-are : (kinds k : ℕ) → candidates kinds k ≡ stepsOf kinds k 1
+unfolding candidates stepsOf stepsOfKind stepsFrom
+candidates-are kinds k = refl
+
+range-none : (a b : ℕ) → b ≤ a → range a b ≡ []
+unfolding range count
+range-none a b h = ap (count a) (let z : b - a ≡ 0 = omega arith in z)
+
+range-more : (a b : ℕ) → a < b → range a b ≡ a ∷ range (a + 1) b
+unfolding range count
+range-more a b h =
+    let e : b - a ≡ suc (b - suc a) = omega arith in
+    rw (e, add-one a)
+
+pub stepsFrom-none : (k kind s r : ℕ) → k ≤ r → stepsFrom k kind s r ≡ []
+unfolding stepsFrom
+stepsFrom-none k kind s r h = rw (range-none r k h)
+
+pub stepsFrom-more : (k kind s r : ℕ) → r < k → stepsFrom k kind s r ≡ step kind s r ∷ stepsFrom k kind s (r + 1)
+unfolding stepsFrom
+stepsFrom-more k kind s r h = rw (range-more r k h)
+
+pub stepsOfKind-none : (k kind s : ℕ) → k ≤ s → stepsOfKind k kind s ≡ []
+unfolding stepsOfKind flatMap
+stepsOfKind-none k kind s h = rw (range-none s k h)
+
+pub stepsOfKind-more : (k kind s : ℕ) → s < k → stepsOfKind k kind s ≡ stepsFrom k kind s 0 ++ stepsOfKind k kind (s + 1)
+unfolding stepsOfKind flatMap
+stepsOfKind-more k kind s h = rw (range-more s k h)
+
+pub stepsOf-none : (kinds k kind : ℕ) → kinds < kind → stepsOf kinds k kind ≡ []
+unfolding stepsOf flatMap
+stepsOf-none kinds k kind h = rw (range-none kind (suc kinds) h)
+
+pub stepsOf-more : (kinds k kind : ℕ) → kind ≤ kinds → stepsOf kinds k kind ≡ stepsOfKind k kind 0 ++ stepsOf kinds k (kind + 1)
+unfolding stepsOf flatMap
+stepsOf-more kinds k kind h = rw (range-more kind (suc kinds) (omega arith))
+
+-- entries of the steps that pass a test
+module _ (p : Step → Bool) where
+  pub entry-met : (s : Step) (l : List Step) (n : ℕ) → p s ≡ true → n ≡ 0 → entry (select p (s ∷ l)) n ≡ At s
+  unfolding entry select keepIf
+  entry-met s l n h z = rw (h, z)
+
+  pub entry-passed : (s : Step) (l : List Step) (n : ℕ) → p s ≡ true → (n ≡ 0 → ⊥) → entry (select p (s ∷ l)) n ≡ entry (select p l) (n - 1)
+  unfolding entry select keepIf
+  entry-passed s l zero h z = absurd (z refl)
+  entry-passed s l (suc n) h z =
+      let e : suc n - 1 ≡ n = omega arith in
+      rw (h, e)
+
+  pub entry-skipped : (s : Step) (l : List Step) (n : ℕ) → p s ≡ false → entry (select p (s ∷ l)) n ≡ entry (select p l) n
+  unfolding entry select keepIf
+  entry-skipped s l n h = rw h
+
+  pub select-append : (l m : List Step) → select p (l ++ m) ≡ select p l ++ select p m
+  unfolding select keepIf
+  select-append [] m = refl
+  select-append (s ∷ l) m = go (p s) (select-append l m)
+    where
+      go : (b : Bool) → select p (l ++ m) ≡ select p l ++ select p m → keepIf b s (select p (l ++ m)) ≡ keepIf b s (select p l) ++ select p m
+      go true e = ap (λ (x : List Step). s ∷ x) e
+      go false e = e
+
+  pub select-passes : (l : List Step) (n : ℕ) (d : Step) → n < length (select p l) → p (getD (select p l) n d) ≡ true
+  unfolding select keepIf
+  select-passes [] n d h = absurd (let z : ⊥ = omega arith in z)
+  select-passes (s ∷ l) n d h = go (p s) refl n h (λ n. select-passes l n d)
+    where
+      go : (b : Bool) → p s ≡ b → (n : ℕ) → n < length (keepIf b s (select p l)) → ((n : ℕ) → n < length (select p l) → p (getD (select p l) n d) ≡ true) → p (getD (keepIf b s (select p l)) n d) ≡ true
+      go true e zero h f = e
+      go true e (suc n) h f = f n (omega arith)
+      go false e n h f = f n h
+
+  pub length-select : (l : List Step) → length (select p l) ≤ length l
+  unfolding select keepIf
+  length-select [] = omega arith
+  length-select (s ∷ l) = go (p s) (length-select l)
+    where
+      go : (b : Bool) → length (select p l) ≤ length l → length (keepIf b s (select p l)) ≤ suc (length l)
+      go true e = omega arith
+      go false e = omega arith
+
+-- an entry of two lists joined
+pub entry-first : (l m : List Step) (n : ℕ) (s : Step) → entry l n ≡ At s → entry (l ++ m) n ≡ At s
+unfolding entry
+entry-first [] m n s h = absurd (let z : _≡_ {A = ℕ} 0 1 = cc in omega arith)
+entry-first (t ∷ l) m zero s h = h
+entry-first (t ∷ l) m (suc n) s h = entry-first l m n s h
+
+pub entry-second : (l m : List Step) (n n′ : ℕ) → entry l n ≡ Beyond n′ → entry (l ++ m) n ≡ entry m n′
+unfolding entry
+entry-second [] m n n′ h = ap (entry m) (let e : n ≡ n′ = cc in e)
+entry-second (t ∷ l) m zero n′ h = absurd (let z : _≡_ {A = ℕ} 0 1 = cc in omega arith)
+entry-second (t ∷ l) m (suc n) n′ h = entry-second l m n n′ h
+
+-- an entry by `getD`
+pub entry-at : (l : List Step) (n : ℕ) (d : Step) → n < length l → entry l n ≡ At (getD l n d)
+unfolding entry
+entry-at [] n d h = absurd (let z : ⊥ = omega arith in z)
+entry-at (t ∷ l) zero d h = refl
+entry-at (t ∷ l) (suc n) d h = entry-at l n d (omega arith)
+
+pub entry-beyond : (l : List Step) (n : ℕ) → length l ≤ n → entry l n ≡ Beyond (n - length l)
+unfolding entry
+entry-beyond [] n h = ap Beyond (omega arith)
+entry-beyond (t ∷ l) zero h = absurd (let z : ⊥ = omega arith in z)
+entry-beyond (t ∷ l) (suc n) h = entry-beyond l n (omega arith) ∙ ap Beyond (omega arith)
+
+-- how many steps there are before the test
+length-count : (a n : ℕ) → length (count a n) ≡ n
+unfolding count
+length-count a zero = refl
+length-count a (suc n) = ap suc (length-count (suc a) n)
+
+length-flat : (f : ℕ → List Step) (m : ℕ) → ((x : ℕ) → length (f x) ≡ m) → (a n : ℕ) → length (flatMap f (count a n)) ≡ n * m
+unfolding count flatMap
+length-flat f m h a zero = sym (zero-mul m)
+length-flat f m h a (suc n) = length-append (f a) _ ∙ (let i = length-flat f m h (suc a) n in omega (arith, h a, suc-mul n m))
+
+pub length-stepsOfKind : (k kind : ℕ) → length (stepsOfKind k kind 0) ≡ k * k
+unfolding stepsOfKind stepsFrom range
+length-stepsOfKind k kind =
+    let z : k - 0 ≡ k = omega arith in
+    length-flat _ k (λ s. length-map (range 0 k) (step kind s) ∙ length-count 0 (k - 0) ∙ z) 0 (k - 0) ∙ ap (λ (n : ℕ). n * k) z
+
+pub length-stepsOf : (kinds k : ℕ) → length (stepsOf kinds k 1) ≡ kinds * (k * k)
+unfolding stepsOf range
+length-stepsOf kinds k = length-flat _ (k * k) (λ kind. length-stepsOfKind k kind) 1 (suc kinds - 1) ∙ ap (λ (n : ℕ). n * (k * k)) (omega arith)
+
+-- the number of an entry and the length of the list
+pub length-of-beyond : (l : List Step) (n m : ℕ) → entry l n ≡ Beyond m → length l + m ≡ n
+unfolding entry
+length-of-beyond [] n m h = let e : n ≡ m = cc in omega arith
+length-of-beyond (t ∷ l) zero m h = absurd (let z : _≡_ {A = ℕ} 0 1 = cc in omega arith)
+length-of-beyond (t ∷ l) (suc n) m h = let i = length-of-beyond l n m h in omega arith
+
+pub below-of-at : (l : List Step) (n : ℕ) (s : Step) → entry l n ≡ At s → n < length l
+unfolding entry
+below-of-at [] n s h = absurd (let z : _≡_ {A = ℕ} 0 1 = cc in omega arith)
+below-of-at (t ∷ l) zero s h = omega arith
+below-of-at (t ∷ l) (suc n) s h = let i = below-of-at l n s h in omega arith

@@ -1,0 +1,46 @@
+-- The stations of a net, of either kind: 64 places, of which those below k are used (document 01, "Stations that meet").
+use mathlib.Core.Bool.{Bool, _&&_, cond}
+use mathlib.Core.List.{List}
+use Prim.Native.Nat.{ℕ}
+use lib.ListN.{getD}
+use lib.Dec.{eqb, ltb}
+use Rattle.finite.specs.Below.{allBelow, tabulate}
+use Rattle.bitset.specs.Set.{size}
+use Rattle.aggregate.specs.declared.Config.{Config}
+use Rattle.aggregate.specs.Aggregate.{rootOf, valid, gathered, nothing, absent}
+use Rattle.station.specs.declared.Station.{Station}
+use Rattle.station.specs.Events.{asleep, active}
+use Rattle.station.specs.Form.{wellFormed}
+
+-- what stands past the end of a list of stations; no net has such a place
+abbrev pub outside : Station
+outside = record { held = absent; unstarted = 0; parent = 0; waits = 0; state = 0 }
+
+-- station i
+abbrev pub stationAt : List Station → ℕ → Station
+stationAt stations i = getD stations i outside
+
+-- "Form (11): k 1 to 64", and every station below k is in form (Causes and numbers)
+unfoldable pub areWellFormed : Config → List Station → Bool
+areWellFormed t stations = valid t && allBelow (t .k) (λ i. wellFormed t i (stationAt stations i))
+
+-- "places past k zero and asleep"
+abbrev pub blank : Station
+blank = record { held = nothing; unstarted = 0; parent = 0; waits = 0; state = asleep }
+
+-- "Fresh: sums are the counts, sets the neighbours, parents 0, waits the set sizes, the desk active, others asleep": station i, of its
+-- count and its neighbours
+unfoldable pub freshStation : Config → ℕ → ℕ → ℕ → Station
+freshStation t count neighbours i =
+    cond (ltb i (t .k))
+    (record {
+      held = gathered t (record { count = count });
+      unstarted = neighbours;
+      parent = rootOf t;
+      waits = size neighbours;
+      state = cond (eqb i (rootOf t)) active asleep;
+    })
+    blank
+
+unfoldable pub freshStations : Config → List ℕ → List ℕ → List Station
+freshStations t counts neighbours = tabulate 64 (λ i. freshStation t (getD counts i 0) (getD neighbours i 0) i)
