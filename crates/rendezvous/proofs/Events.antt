@@ -168,12 +168,14 @@ module _ (net : Net) (f : wellFormed net ≡ true) (full : length (net .stations
         let s = station net j in
         let r = station net i in
         let state = eqb (r .state) active in
-        let guard = answer-guard (net .config) j i s r ∙ answer-together state (mayAnswer (net .config) j s) (not (eqb j i)) (eqb (s .parent) i) in
-        together answer (eqb (s .parent) i) (mayAnswer (net .config) j s) state _ _ _ _ sends-answer takes-answer
+        let send = mayAnswer (net .config) j s in
+        let fit = eqb (s .parent) i in
+        let guard = answer-guard (net .config) j i s r ∙ answer-together state send (not (eqb j i)) fit in
+        together answer fit send state _ _ _ _ sends-answer takes-answer
         (rw (eqb-comm i j) guard)
         (λ m.
-        let given = given-held (and-both (not (eqb j i) && eqb (s .parent) i) (mayAnswer (net .config) j s) (and-both (not (eqb j i) && eqb (s .parent) i && mayAnswer (net .config) j s) state (sym guard ∙ m) .0) .1) in
-        rw (given, joined-alike (net .config) (configOf (processAt net i)) (r .held) (s .held)))
+        let sent = and-both (not (eqb j i) && fit) send (and-both (not (eqb j i) && fit && send) state (sym guard ∙ m) .0) .1 in
+        rw (given-held sent, joined-alike (net .config) (configOf (processAt net i)) (r .held) (s .held)))
 
   root-inside : rootOf (net .config) < net .config .k
   unfolding wellFormed
@@ -191,9 +193,12 @@ module _ (net : Net) (f : wellFormed net ≡ true) (full : length (net .stations
       let guard = report-guard (net .config) root root (station net root) (station net root) in
       record {
         allowed = guard ∙ sym (reports-event .accepted);
-        reporter = λ m. getD-set-same (net .stations) root (ended (station net root)) outside (rw full inside) ∙ sym (reports-event .leaves (sym guard ∙ m));
+        reporter = λ m.
+            getD-set-same (net .stations) root (ended (station net root)) outside (rw full inside)
+            ∙ sym (reports-event .leaves (sym guard ∙ m));
       }
 
 -- "Each step is the sender's event and the receiver's together" (document 01, Stations that meet), in a well-formed net of 64 places
 pub steps-are-events : (net : Net) → wellFormed net ≡ true → length (net .stations) ≡ 64 → StepsAreEvents net
-steps-are-events net f full = record { wakes = wakes net f full; passes = passes net f full; answers = answers net f full; reports = reports net f full }
+steps-are-events net f full =
+    record { wakes = wakes net f full; passes = passes net f full; answers = answers net f full; reports = reports net f full }

@@ -1,4 +1,3 @@
-pub mod Answers
 pub mod Guards
 pub mod Laws
 pub mod Places

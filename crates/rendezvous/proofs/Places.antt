@@ -19,7 +19,7 @@ use Rattle.rendezvous.specs.declared.Net.{Net}
 use Rattle.rendezvous.specs.Net.{station, withTwo}
 use Rattle.rendezvous.specs.Figure.{wake, pass, answer, applied}
 use Rattle.rendezvous.specs.Rules.{rules}
-use Rattle.rendezvous.proofs.Laws.{in-range}
+use Rattle.schedule.proofs.Answers.{allowed-parts}
 
 -- two stations replaced
 module _ (net : Net) (j i : ℕ) (s r : Station) where
@@ -53,7 +53,7 @@ steps-kept : (steps : List Step) (net : Net) (x : ℕ) → net .config .k ≤ x 
     → station (reached (rules .apply) net steps) x ≡ station net x
 steps-kept [] net x past runs = refl
 steps-kept (s ∷ l) net x past runs =
-    let b = range-bounds rules net s (in-range net s (listed-allowed rules net s (runs .0 .1))) in
+    let b = range-bounds rules net s (allowed-parts rules net s (listed-allowed rules net s (runs .0 .1)) .0) in
     let config = config-kept net (s .kind) (s .sender) (s .receiver) in
     steps-kept l (rules .apply net s) x (rw config past) (runs .1)
     ∙ other-kept net (s .kind) (s .sender) (s .receiver) x (λ e. omega (arith, b .sender-low)) (λ e. omega (arith, b .receiver-low))

@@ -25,6 +25,7 @@ freshOn m = freshNet (configOf m) (m .counts) (m .neighbours)
 abbrev pub unopened : Net
 unopened = record { config = record { k = 0 }; stations = replicate 64 blank }
 
+-- an accepted map opens its fresh net, and a refused one opens none
 unfoldable pub opening : Map → Opening
 opening m = record { numbers = acceptance m; net = cond (isAccepted (acceptance m)) (freshOn m) unopened }
 

@@ -33,6 +33,7 @@ pub const REPORT: u8 = 4;
 const KINDS: u8 = 4;
 
 // Stations 0 to k − 1, and what the net was opened with. Places past k are not used.
+#[repr(C)]
 pub struct Net {
     pub config: Config,
     pub stations: [Station; 64],

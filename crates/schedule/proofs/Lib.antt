@@ -4,3 +4,4 @@ pub mod Runs
 pub mod Parts
 pub mod Scan
 pub mod Outcomes
+pub mod Answers

@@ -13,10 +13,11 @@ use Rattle.finite.proofs.Cases.{and-both}
 use Rattle.finite.proofs.Below.{all-below-at, getD-tabulate}
 use Rattle.bitset.specs.Set.{size}
 use Rattle.aggregate.specs.declared.Config.{Config}
-use Rattle.aggregate.specs.Aggregate.{rootOf, valid, gathered}
+use Rattle.aggregate.specs.Aggregate.{rootOf, valid, bounded, gathered}
 use Rattle.station.specs.declared.Station.{Station}
 use Rattle.station.specs.Events.{asleep, active}
 use Rattle.station.specs.Form.{wellFormed}
+use Rattle.station.proofs.Formed.{facts}
 use Rattle.stations.specs.Stations.{stationAt, areWellFormed, outside, freshStation, freshStations}
 
 module _ (t : Config) (stations : List Station) (h : areWellFormed t stations ≡ true) where
@@ -31,6 +32,9 @@ module _ (t : Config) (stations : List Station) (h : areWellFormed t stations �
   -- each station below k is well-formed; `facts` of station's Formed says what that means
   pub well-formed-at : (i : ℕ) → i < t .k → wellFormed t i (stationAt stations i) ≡ true
   well-formed-at i l = all-below-at (λ i. wellFormed t i (stationAt stations i)) (t .k) i (parts .1) l
+
+  pub held-bounded-at : (i : ℕ) → i < t .k → bounded t (stationAt stations i .held) ≡ true
+  held-bounded-at i l = facts t i (stationAt stations i) (well-formed-at i l) .held-bounded
 
 -- the fresh station of a place below k
 pub fresh-at : (t : Config) (counts neighbours : List ℕ) (i : ℕ) → t .k ≤ 64 → i < t .k

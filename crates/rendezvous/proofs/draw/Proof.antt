@@ -11,7 +11,8 @@ use Rattle.schedule.specs.Scan.{entry}
 use Rattle.schedule.proofs.Outcomes.{draw-unformed, draw-rest, draw-made, draw-in-range}
 use Rattle.rendezvous.specs.Net.{wellFormed}
 use Rattle.rendezvous.specs.Rules.{rules}
-use Rattle.rendezvous.proofs.Laws.{k-most, entry-allowed}
+use Rattle.schedule.proofs.Answers.{entry-allowed}
+use Rattle.rendezvous.proofs.Laws.{k-most}
 use Rattle.rendezvous.proofs.draw.Statement.{statement}
 use Rattle.rendezvous.proofs.draw.Tie as tie
 
@@ -67,7 +68,7 @@ make-requires : tie.Need-make-requires
 make-requires c κs =
     let find = c .before .before .before in
     let a = find .before .before .before .before .before .args in
-    (formed (find .before .before .before), entry-allowed (a .net) _ (c .before .found .given .0 .0) (sym (picked find) ∙ c .before .found .given .1))
+    (formed (find .before .before .before), entry-allowed rules (a .net) (c .before .found .given .0 .0) _ (sym (picked find) ∙ c .before .found .given .1))
 
 enum-told : tie.Need-enum-told
 enum-told c = search needs
@@ -80,7 +81,8 @@ returns-3 c =
     let find = c .before .before .before .before in
     let a = find .before .before .before .before .before .args in
     c .make .ensures
-    ∙ sym (draw-made rules (a .net) (a .d) (formed (find .before .before .before)) (c .before .before .found .given .0 .0) (some (find .before)) (sym (c .before .before .found .given .1) ∙ picked find))
+    ∙ sym (draw-made rules (a .net) (a .d) (formed (find .before .before .before)) (c .before .before .found .given .0 .0) (some (find .before))
+    (sym (c .before .before .found .given .1) ∙ picked find))
 
 returns-4 : tie.Need-returns-4
 returns-4 c =

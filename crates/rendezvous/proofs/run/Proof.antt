@@ -9,7 +9,7 @@ use Rattle.schedule.specs.Draws.{runOn}
 use Rattle.schedule.proofs.Outcomes.{runFrom, run-from-start, run-used-up, run-refused, run-on}
 use Rattle.rendezvous.specs.declared.Net.{Net}
 use Rattle.rendezvous.specs.Rules.{rules}
-use Rattle.rendezvous.proofs.Answers.{answer-made, answer-refused}
+use Rattle.schedule.proofs.Answers.{answer-made, answer-refused}
 use Rattle.rendezvous.proofs.run.Statement.{statement}
 use Rattle.rendezvous.proofs.run.Tie as tie
 

@@ -27,7 +27,8 @@ low c =
     places (a .t1) (formed (c .before .before .before)) (a .step) (ranged c)
 
 -- past the third
-guarded : (c : tie.Else3) → let a = c .before .before .before .before .before .before .before .before .before .before .before .args in rules .guard (a .t1) (a .step) ≡ true
+guarded : (c : tie.Else3)
+    → let a = c .before .before .before .before .before .before .before .before .before .before .before .args in rules .guard (a .t1) (a .step) ≡ true
 guarded c = sym (c .before .may-step .ensures) ∙ not-false _ (c .if3 .left)
 
 is-well-formed-requires : tie.Need-is-well-formed-requires
@@ -53,7 +54,8 @@ unfolding inRange
 returns-2 c =
     let a = c .before .before .before .before .before .before .args in
     c .refuse2 .ensures
-    ∙ sym (step-outside rules (a .t1) (a .step) (formed (c .before .before .before .before)) (sym (c .before .before .is-in-range .ensures) ∙ not-true _ (c .before .if2 .taken)))
+    ∙ sym (step-outside rules (a .t1) (a .step) (formed (c .before .before .before .before))
+    (sym (c .before .before .is-in-range .ensures) ∙ not-true _ (c .before .if2 .taken)))
 
 cast-sender : tie.Need-cast-sender
 cast-sender c = search needs
@@ -85,7 +87,8 @@ returns-3 c =
     let first = second .before .before .before in
     let a = first .before .before .args in
     c .refuse3 .ensures
-    ∙ sym (step-barred rules (a .t1) (a .step) (formed first) (ranged second) (sym (c .before .before .may-step .ensures) ∙ not-true _ (c .before .if3 .taken)))
+    ∙ sym (step-barred rules (a .t1) (a .step) (formed first) (ranged second)
+    (sym (c .before .before .may-step .ensures) ∙ not-true _ (c .before .if3 .taken)))
 
 make-requires : tie.Need-make-requires
 unfolding allowed

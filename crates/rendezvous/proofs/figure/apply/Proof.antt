@@ -4,13 +4,15 @@ use Prim.Native.Nat.{_<_}
 use borrow.Author.Needs.{needs}
 use borrow.Author.Tests.{ne-eqb}
 use Rattle.rendezvous.specs.Figure.{applied}
-use Rattle.rendezvous.proofs.Laws.{in-range, places, sums-joinable}
+use Rattle.rendezvous.specs.Rules.{rules}
+use Rattle.schedule.proofs.Answers.{allowed-parts}
+use Rattle.rendezvous.proofs.Laws.{places, sums-joinable}
 use Rattle.rendezvous.proofs.figure.apply.Statement.{statement}
 use Rattle.rendezvous.proofs.figure.apply.Tie as tie
 
 -- both stations have a place
 low : (c : tie.Start) → (c .args .step .sender < 64) × (c .args .step .receiver < 64)
-low c = places (c .args .t1) (c .pre .0) (c .args .step) (in-range (c .args .t1) (c .args .step) (c .pre .1))
+low c = places (c .args .t1) (c .pre .0) (c .args .step) (allowed-parts rules (c .args .t1) (c .args .step) (c .pre .1) .0)
 
 cast-j : tie.Need-cast-j
 cast-j c = search needs
@@ -78,7 +80,7 @@ returns-3 : tie.Need-returns-3
 unfolding applied
 returns-3 c =
     let start = c .before .before .before .before .before .before .before .before in
-    let joins = sums-joinable (start .args .t1) (start .pre .0) (start .args .step) (in-range (start .args .t1) (start .args .step) (start .pre .1)) in
+    let joins = sums-joinable (start .args .t1) (start .pre .0) (start .args .step) (allowed-parts rules (start .args .t1) (start .args .step) (start .pre .1) .0) in
     rw (c .place3 .ensures, c .before .answer-taken .ensures, joins, c .before .before .ended .ensures, c .before .before .before .before .match .keys3)
 
 returns-4 : tie.Need-returns-4

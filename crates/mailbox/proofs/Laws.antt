@@ -1,0 +1,78 @@
+-- What a well-formed net and an allowed step say of the two stations and of the mailbox between them. Assumes nothing.
+use mathlib.Core.Path.{_≡_}
+use mathlib.Core.Bool.{true, false, not, _||_}
+use Prim.Native.Nat.{ℕ, _≤_, _<_}
+use native.Mathlib.Omega.{arith}
+use lib.Dec.{eqb}
+use borrow.Author.Tests.{eq-eqb, le-leb, not-true}
+use Rattle.finite.specs.Below.{allBelow}
+use Rattle.finite.proofs.Cases.{clash, by-bool, by-sum, and-both, or-cases}
+use Rattle.finite.proofs.Below.{all-below-at}
+use Rattle.aggregate.specs.declared.Config.{Config}
+use Rattle.aggregate.specs.Aggregate.{rootOf, valid}
+use Rattle.aggregate.proofs.Laws.{valid-k, root-below}
+use Rattle.station.specs.declared.Station.{Station}
+use Rattle.station.specs.Events.{asleep}
+use Rattle.station.proofs.Formed.{WellFormed, facts}
+use Rattle.schedule.specs.declared.Step.{Step}
+use Rattle.schedule.specs.Rules.{inRange}
+use Rattle.schedule.proofs.Listing.{range-bounds}
+use Rattle.stations.specs.Stations.{areWellFormed}
+use Rattle.stations.proofs.Laws.{config-valid, well-formed-at}
+use Rattle.topology.specs.Answer.{accepted}
+use Rattle.linemap.specs.declared.Map.{Map}
+use Rattle.linemap.specs.Maps.{configOf, acceptance}
+use Rattle.linemap.proofs.Accepted.{map-web}
+use Rattle.slot.specs.declared.Mailbox.{Mailbox}
+use Rattle.slot.specs.declared.Mailbox.the-variants.{Empty, Full}
+use Rattle.slot.specs.declared.Message.the-variants.{Start, Answer}
+use Rattle.slot.specs.Slot.{mailboxBounded}
+use Rattle.mailbox.specs.declared.Net.{Net}
+use Rattle.mailbox.specs.Net.{station, boxAt, areBounded, wellFormed}
+use Rattle.mailbox.specs.Delivery.{takesFrom, taken}
+use Rattle.mailbox.specs.Rules.{delivery, mayStep, rules}
+
+-- a delivery goes from one station to another
+pub delivery-apart : (net : Net) (s : Step) → s .kind ≡ delivery → rules .guard net s ≡ true → eqb (s .sender) (s .receiver) ≡ false
+unfolding mayStep
+delivery-apart net s e g =
+    let may = rw (eq-eqb (s .kind) delivery e) at g in
+    let apart = not (eqb (s .sender) (s .receiver)) in
+    not-true (eqb (s .sender) (s .receiver)) (and-both apart (takesFrom (station net (s .receiver)) (boxAt (net .boxes) (s .sender) (s .receiver))) may .0)
+
+module _ (net : Net) (f : wellFormed net ≡ true) where
+  parts : (areWellFormed (net .config) (net .stations) ≡ true) × (areBounded (net .config) (net .boxes) ≡ true)
+  unfolding wellFormed
+  parts = and-both (areWellFormed (net .config) (net .stations)) (areBounded (net .config) (net .boxes)) f
+
+  pub k-most : net .config .k ≤ 64
+  k-most = valid-k (net .config) (config-valid (net .config) (net .stations) (parts .0)) .1
+
+  pub formed-at : (i : ℕ) → i < net .config .k → WellFormed (net .config) i (station net i)
+  formed-at i l = facts (net .config) i (station net i) (well-formed-at (net .config) (net .stations) (parts .0) i l)
+
+  -- what is posted from one station to another is bounded
+  pub posted-bounded : (s r : ℕ) → s < net .config .k → r < net .config .k → eqb s r ≡ false → mailboxBounded (net .config) (boxAt (net .boxes) s r) ≡ true
+  unfolding areBounded
+  posted-bounded s r hs hr n =
+      let k = net .config .k in
+      let row = all-below-at (λ i. allBelow k (λ j. eqb i j || mailboxBounded (net .config) (boxAt (net .boxes) i j))) k s (parts .1) hs in
+      let one = all-below-at (λ j. eqb s j || mailboxBounded (net .config) (boxAt (net .boxes) s j)) k r row hr in
+      by-sum (or-cases (eqb s r) (mailboxBounded (net .config) (boxAt (net .boxes) s r)) one) (λ e. clash e n) (λ e. e)
+
+  pub places : (s : Step) → inRange rules net s ≡ true → (s .sender < 64) × (s .receiver < 64)
+  places s r = let b = range-bounds rules net s r in omega (arith, b .sender-low, b .receiver-low, k-most)
+
+-- whoever takes a message has the sender or its old parent as its parent
+pub taken-parent : (P : ℕ → Type 0) (t : Config) (from : ℕ) (box : Mailbox) (s : Station) → P from → P (s .parent) → P (taken t from box s .parent)
+taken-parent P t from Empty s h g = g
+taken-parent P t from (Full Start) s h g = by-bool (eqb (s .state) asleep) (λ e. rw e h) (λ e. rw e g)
+taken-parent P t from (Full (Answer v)) s h g = g
+
+-- the root of an accepted map has a place
+pub root-low : (m : Map) → acceptance m ≡ accepted → rootOf (configOf m) < 64
+unfolding valid
+root-low m e =
+    let web = map-web m (rw e) in
+    let below = root-below (configOf m) (rw (le-leb 1 (m .k) (web .some-station), le-leb (m .k) 64 (web .few-stations))) in
+    omega (arith, web .few-stations)

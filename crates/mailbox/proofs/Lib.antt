@@ -1,0 +1,6 @@
+pub mod Laws
+pub mod Posting
+pub mod Delivered
+pub mod Starting
+pub mod Places
+pub mod Examples

@@ -1,0 +1,77 @@
+-- Delivery and report of stations with mail, sentence by sentence (document 01, "Stations with mail").
+use mathlib.Core.Bool.{Bool, false, not, cond, _&&_, _||_}
+use mathlib.Core.List.{List}
+use Prim.Native.Nat.{ℕ, _-_}
+use lib.ListN.{set}
+use lib.Dec.{eqb}
+use Rattle.bitset.specs.Set.{size, without}
+use Rattle.aggregate.specs.declared.Config.{Config}
+use Rattle.aggregate.specs.Aggregate.{rootOf}
+use Rattle.station.specs.declared.Station.{Station}
+use Rattle.station.specs.Events.{asleep, active, startTaken, answerTaken, ended}
+use Rattle.slot.specs.declared.Message.{Message}
+use Rattle.slot.specs.declared.Message.the-variants.{Start, Answer}
+use Rattle.slot.specs.declared.Mailbox.{Mailbox}
+use Rattle.slot.specs.declared.Mailbox.the-variants.{Empty, Full}
+use Rattle.slot.specs.declared.Slot.{Slot}
+use Rattle.mailbox.specs.declared.Net.{Net}
+use Rattle.mailbox.specs.Net.{station, boxAt, putBox, posted, startsPosted}
+
+-- "A start is taken asleep or active, an answer only active"
+abbrev pub takesMessage : Station → Message → Bool
+takesMessage s Start = eqb (s .state) asleep || eqb (s .state) active
+takesMessage s (Answer v) = eqb (s .state) active
+
+-- "A delivery (sender, receiver) needs a full box"
+abbrev pub takesFrom : Station → Mailbox → Bool
+takesFrom s Empty = false
+takesFrom s (Full m) = takesMessage s m
+
+-- "Except in a report, a step from a station to itself is never allowed" (Stations that meet)
+abbrev pub mayDeliver : ℕ → ℕ → Station → Mailbox → Bool
+mayDeliver from to receiver box = not (eqb from to) && takesFrom receiver box
+
+-- "On waking, the receiver's parent is the sender, waits are its neighbours less one"; "neighbour sets stay"
+abbrev pub awakened : ℕ → Station → Station
+awakened from s =
+    record { held = s .held; unstarted = s .unstarted; parent = from; waits = size (s .unstarted) - 1; state = active }
+
+-- "either makes an active receiver's waits less one, and an answer's sum is added"
+abbrev pub messageTaken : Config → ℕ → Message → Station → Station
+messageTaken t from Start s = cond (eqb (s .state) asleep) (awakened from s) (startTaken s)
+messageTaken t from (Answer v) s = answerTaken t v s
+
+abbrev pub taken : Config → ℕ → Mailbox → Station → Station
+taken t from Empty s = s
+taken t from (Full m) s = messageTaken t from m s
+
+-- a delivery "empties it"; on waking the receiver "posts a start to every neighbour but the parent"
+unfoldable pub boxesAfter : List Slot → ℕ → ℕ → Station → List Slot
+boxesAfter boxes from to receiver =
+    cond (eqb (receiver .state) asleep)
+    (startsPosted (putBox boxes from to Empty) to (without from (receiver .unstarted)) 64)
+    (putBox boxes from to Empty)
+
+-- "After any delivery, a receiver other than 0 with waits zero posts its sum as an answer to its parent and is finished"
+abbrev pub mustAnswer : Config → ℕ → Station → Bool
+mustAnswer t to s = not (eqb to (rootOf t)) && eqb (s .waits) 0
+
+unfoldable pub settled : Config → List Station → List Slot → ℕ → Station → Net
+settled t stations boxes to s =
+    cond (mustAnswer t to s)
+    (record { config = t; stations = set stations to (ended s); boxes = posted boxes to (s .parent) (Answer (s .held)) })
+    (record { config = t; stations = set stations to s; boxes = boxes })
+
+-- the net after a delivery
+unfoldable pub delivered : Net → ℕ → ℕ → Net
+delivered net from to =
+    settled (net .config) (net .stations) (boxesAfter (net .boxes) from to (station net to)) to
+    (taken (net .config) from (boxAt (net .boxes) from to) (station net to))
+
+-- "Report: desk active, waits zero; it becomes finished"
+abbrev pub mayReport : Station → Bool
+mayReport root = eqb (root .state) active && eqb (root .waits) 0
+
+unfoldable pub reported : Net → ℕ → Net
+reported net root =
+    record { config = net .config; stations = set (net .stations) root (ended (station net root)); boxes = net .boxes }

@@ -1,0 +1,4 @@
+pub mod Net
+pub mod Delivery
+pub mod Rules
+pub mod Opening

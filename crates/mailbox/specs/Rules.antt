@@ -1,0 +1,45 @@
+-- Stations with mail as a kind of net: "Delivery is kind 1, report (0 and 0) kind 2; listing, draws and runs go as above" (document 01,
+-- "Stations with mail"), from the definitions of `schedule`.
+use mathlib.Core.Bool.{Bool, false, cond}
+use Prim.Native.Nat.{ℕ}
+use lib.Dec.{eqb}
+use Rattle.aggregate.specs.Aggregate.{rootOf}
+use Rattle.station.specs.declared.Station.{Station}
+use Rattle.schedule.specs.declared.Step.{Step}
+use Rattle.schedule.specs.Rules.{Rules}
+use Rattle.slot.specs.declared.Mailbox.{Mailbox}
+use Rattle.mailbox.specs.declared.Net.{Net}
+use Rattle.mailbox.specs.Net.{station, boxAt, wellFormed}
+use Rattle.mailbox.specs.Delivery.{mayDeliver, mayReport, delivered, reported}
+
+abbrev pub delivery : ℕ
+delivery = 1
+
+abbrev pub report : ℕ
+report = 2
+
+-- "kind not .. (mail: 1 or 2)": how many kinds there are (Causes and numbers)
+abbrev pub kinds : ℕ
+kinds = 2
+
+-- number 13: a step, its receiver, and what is in the mailbox from its sender to it
+unfoldable pub mayStep : Step → Station → Mailbox → Bool
+mayStep s receiver box =
+    cond (eqb (s .kind) delivery) (mayDeliver (s .sender) (s .receiver) receiver box)
+    (cond (eqb (s .kind) report) (mayReport receiver)
+    false)
+
+unfoldable pub applied : Net → Step → Net
+applied net s = cond (eqb (s .kind) delivery) (delivered net (s .sender) (s .receiver)) (reported net (s .receiver))
+
+abbrev pub rules : Rules Net
+rules =
+    record {
+      kinds = kinds;
+      reports = report;
+      stations = λ net. net .config .k;
+      root = λ net. rootOf (net .config);
+      wellFormed = wellFormed;
+      guard = λ net s. mayStep s (station net (s .receiver)) (boxAt (net .boxes) (s .sender) (s .receiver));
+      apply = applied;
+    }

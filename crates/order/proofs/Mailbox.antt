@@ -1,0 +1,115 @@
+-- Stations with mail are tied to the wave: the fresh net stands for the fresh state, steps are those of `Mailing`, and every net reached is
+-- in form, since a sum, held or posted, is a part of the total. Assumes nothing.
+use mathlib.Core.Path.{_≡_, refl, ap, _∙_, subst}
+use mathlib.Core.Bool.{true, _||_}
+use mathlib.Core.List.{List}
+use Prim.Native.Nat.{ℕ, _^_, _<_}
+use native.Mathlib.Omega.{arith}
+use lib.ListN.{getD}
+use lib.Dec.{eqb}
+use borrow.Author.Tests.{lt-ltb, ne-eqb}
+use Rattle.finite.proofs.Cases.{by-bool, by-eq, or-right, eqb-self}
+use Rattle.finite.specs.Below.{allBelow}
+use Rattle.finite.proofs.Below.{all-below}
+use Rattle.bitset.specs.Set.{member}
+use Rattle.aggregate.specs.declared.Config.{Config}
+use Rattle.aggregate.specs.declared.Aggregate.{Aggregate}
+use Rattle.aggregate.specs.Aggregate.{rootOf, bounded}
+use Rattle.aggregate.specs.Joining.{joining}
+use Rattle.wave.specs.Wave.{next, Weak}
+use Rattle.wave.specs.Wave as wave
+use Rattle.topology.specs.Acceptance.{Web}
+use Rattle.slot.specs.declared.Message.the-variants.{Start, Answer}
+use Rattle.slot.specs.declared.Mailbox.{Mailbox}
+use Rattle.slot.specs.declared.Mailbox.the-variants.{Empty, Full}
+use Rattle.slot.specs.Slot.{mailboxBounded}
+use Rattle.mailbox.specs.declared.Net.{Net}
+use Rattle.mailbox.specs.Net.{station, boxAt, areBounded, wellFormed, freshNet}
+use Rattle.mailbox.specs.Rules.{rules}
+use Rattle.mailbox.proofs.Starting.{fresh-shaped, fresh-box}
+use Rattle.order.proofs.Kind.{Ties}
+use Rattle.order.proofs.Stations.{viewOf, line, Places, reading, fresh-view, fresh-places, fresh-parents, stations-formed, part-of-total}
+use Rattle.order.proofs.View.{Fresh}
+use Rattle.order.proofs.Mailing.{answer, MailFresh, MailFormed}
+use Rattle.order.proofs.MailingRefines.{Mails, mail-sound, mail-keeps, mail-live, mail-fresh, mail-formed}
+use Rattle.order.proofs.MailboxSteps.{toBox, view, act, label-act, Good, may-of, does-of, good-of, can-of}
+
+module _ (t : Config) (counts neighbours : List ℕ) (web : Web (rootOf t) (t .k) neighbours) (small : (i : ℕ) → i < t .k → getD counts i 0 < 2 ^ 32) where
+  abbrev opened : Net
+  opened = freshNet t counts neighbours
+
+  opened-config : opened .config ≡ t
+  unfolding freshNet
+  opened-config = refl
+
+  -- its stations are fresh ones
+  opened-places : Places t neighbours web (opened .stations)
+  unfolding freshNet
+  opened-places = fresh-places t counts neighbours web small
+
+  opened-view : Fresh (line t neighbours web) (reading t counts neighbours web small) (viewOf (opened .stations))
+  unfolding freshNet
+  opened-view = fresh-view t counts neighbours web small
+
+  opened-parents : (x : ℕ) → x < t .k → station opened x .parent < t .k
+  unfolding freshNet
+  opened-parents = fresh-parents t counts neighbours web small
+
+  root-low : rootOf t < 64
+  root-low = omega (arith, line t neighbours web .root-in, web .few-stations)
+
+  pub opens-good : Good t neighbours web opened
+  opens-good =
+      record {
+        config-is = opened-config;
+        places = opened-places;
+        shaped = fresh-shaped t counts neighbours;
+        parents = opened-parents;
+      }
+
+  pub opens : MailFresh (line t neighbours web) (reading t counts neighbours web small) (view opened)
+  opens =
+      record {
+        stations = opened-view;
+        boxes = λ x y l m.
+            ap toBox (fresh-box t counts neighbours root-low x y (omega (arith, web .few-stations)) (omega (arith, web .few-stations)))
+            ∙ by-eq x (rootOf t)
+            (λ q. by-bool (member y (getD neighbours (rootOf t) 0))
+            (λ b. rw (q, eqb-self (rootOf t), lt-ltb (rootOf t) (t .k) (line t neighbours web .root-in), b))
+            (λ b. rw (q, eqb-self (rootOf t), lt-ltb (rootOf t) (t .k) (line t neighbours web .root-in), b)))
+            (λ q. rw (ne-eqb x (rootOf t) q));
+      }
+
+  box-bounded : (b : Mailbox) → ((u : Aggregate) → toBox b ≡ answer u → bounded t u ≡ true) → mailboxBounded t b ≡ true
+  box-bounded Empty h = refl
+  box-bounded (Full Start) h = refl
+  box-bounded (Full (Answer u)) h = h u refl
+
+  pub formed-of : (n : Net) → Good t neighbours web n → MailFormed (line t neighbours web) (joining t) (reading t counts neighbours web small) (view n) → wellFormed n ≡ true
+  unfolding wellFormed areBounded
+  formed-of n G F =
+      rw (G .config-is, stations-formed t counts neighbours web small (n .stations) (G .places) (F .stations))
+      (all-below (λ s. allBelow (t .k) (λ r. eqb s r || mailboxBounded t (boxAt (n .boxes) s r))) (t .k) (λ x l.
+      all-below (λ r. eqb x r || mailboxBounded t (boxAt (n .boxes) x r)) (t .k) (λ y m.
+      or-right (eqb x y) (mailboxBounded t (boxAt (n .boxes) x y))
+      (box-bounded (boxAt (n .boxes) x y) (λ u e. let part = F .posted x y u l m e in part-of-total t counts neighbours web small u (part .0) (part .1))))))
+
+  abbrev pub ties : Ties rules (line t neighbours web) (joining t) (reading t counts neighbours web small) opened (λ n. station n (rootOf t) .held)
+  ties =
+      record {
+        Stands = λ n S. Good t neighbours web n × Mails (line t neighbours web) (view n) S;
+        opened-stands = (opens-good, mail-fresh (line t neighbours web) (reading t counts neighbours web small) (view opened) opens);
+        held-is = λ n S R. R .1 .stations .sums (rootOf t) (line t neighbours web .root-in);
+        formed = λ n S R I. formed-of n (R .0) (mail-formed (line t neighbours web) (joining t) (reading t counts neighbours web small) S I (view n) (R .1));
+        sound = λ n S m R I a.
+            subst (Weak (line t neighbours web) S) (label-act m)
+            (mail-sound (line t neighbours web) (joining t) (reading t counts neighbours web small) S I (view n) (R .1) (act m) (may-of t neighbours web n m (R .0) a));
+        keeps = λ n S m R I a. (
+          good-of t neighbours web n m (R .0) a,
+          subst (λ (s : wave.Step). Mails (line t neighbours web) (view (rules .apply n m)) (next (line t neighbours web) (joining t) S s)) (label-act m)
+              (mail-keeps (line t neighbours web) (joining t) (reading t counts neighbours web small) S I (view n) (view (rules .apply n m)) (R .1) (act m) (may-of t neighbours web n m (R .0) a) (does-of t neighbours web n m (R .0) a)),
+        );
+        live = λ n S s R I st.
+            let a = mail-live (line t neighbours web) (joining t) (reading t counts neighbours web small) S I (view n) (R .1) s st in
+            can-of t neighbours web n (R .0) (a .0) (a .1);
+      }
