@@ -18,6 +18,7 @@ pub const ACTIVE: u8 = 1;
 pub const FINISHED: u8 = 2;
 
 // What a net holds of a station.
+#[repr(C)]
 pub struct Station {
     // What it has gathered (01: its sum).
     pub held: Aggregate,
@@ -30,6 +31,7 @@ pub struct Station {
 }
 
 // A station by itself: the process of Definition 3.1.
+#[repr(C)]
 pub struct Process {
     pub own: u8,
     pub station: Station,
@@ -311,4 +313,56 @@ impl Process {
         let allowed = s.may_report(t, self.own);
         self.decide(form, true, allowed, self.gives())
     }
+}
+
+// The events on a process that a controller lends: the event by value, and its process stored back.
+
+// Take a start from a neighbour.
+pub fn take_start_in_place(p: &mut Process, from: u8) -> Reply
+    ensures { λ r. ⌜ Rules.outcomeOf r (now (p .exit)) ≡ Rules.takeStart from (now (p .entry)) ⌝ }
+{
+    let before = *p;
+    let event = before.take_start(from);
+    *p = event.process;
+    event.reply
+}
+
+// Send a start to a neighbour.
+pub fn send_start_in_place(p: &mut Process, to: u8) -> Reply
+    ensures { λ r. ⌜ Rules.outcomeOf r (now (p .exit)) ≡ Rules.sendStart to (now (p .entry)) ⌝ }
+{
+    let before = *p;
+    let event = before.send_start(to);
+    *p = event.process;
+    event.reply
+}
+
+// Take an answer.
+pub fn take_answer_in_place(p: &mut Process, v: Aggregate) -> Reply
+    ensures { λ r. ⌜ Rules.outcomeOf r (now (p .exit)) ≡ Rules.takeAnswer v (now (p .entry)) ⌝ }
+{
+    let before = *p;
+    let event = before.take_answer(v);
+    *p = event.process;
+    event.reply
+}
+
+// Send the sum to the parent.
+pub fn send_answer_in_place(p: &mut Process) -> Reply
+    ensures { λ r. ⌜ Rules.outcomeOf r (now (p .exit)) ≡ Rules.sendAnswer (now (p .entry)) ⌝ }
+{
+    let before = *p;
+    let event = before.send_answer();
+    *p = event.process;
+    event.reply
+}
+
+// Report the sum.
+pub fn report_in_place(p: &mut Process) -> Reply
+    ensures { λ r. ⌜ Rules.outcomeOf r (now (p .exit)) ≡ Rules.report (now (p .entry)) ⌝ }
+{
+    let before = *p;
+    let event = before.report();
+    *p = event.process;
+    event.reply
 }

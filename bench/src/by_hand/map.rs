@@ -1,0 +1,109 @@
+use super::Refusal;
+use conformance::model::map::Map;
+
+const ROW: usize = 12;
+const TRAILER: usize = 16;
+
+pub fn read(bytes: &[u8], map: &mut Map) -> Result<(), Refusal> {
+    let Some(start) = bytes.len().checked_sub(TRAILER) else { return Err((1, 0)) };
+    let trailer = &bytes[start..];
+    if u16::from_le_bytes([trailer[2], trailer[3]]) != ROW as u16 {
+        return Err((2, 0));
+    }
+    let k = usize::from(u16::from_le_bytes([trailer[0], trailer[1]]));
+    if !(1..=64).contains(&k) {
+        return Err((3, 0));
+    }
+    if word(&trailer[4..]) as usize != ROW * k {
+        return Err((4, 0));
+    }
+    let Some(first) = start.checked_sub(ROW * k) else { return Err((5, 0)) };
+    if bytes[first..].chunks_exact(4).fold(0, |sum: u32, four| sum.wrapping_add(word(four))) != 0 {
+        return Err((6, 0));
+    }
+    let mut sets = [0; 64];
+    let rows = bytes[first..start].chunks_exact(ROW);
+    for (set, row) in sets.iter_mut().zip(rows.clone()) {
+        *set = u64::from(word(&row[4..])) | u64::from(word(&row[8..])) << 32;
+    }
+    accept(&sets[..k])?;
+    *map = Map { k: k as u8, lot: word(&trailer[8..]), counts: [0; 64], neighbours: sets };
+    for (count, row) in map.counts.iter_mut().zip(rows) {
+        *count = word(row);
+    }
+    Ok(())
+}
+
+pub fn write(map: &Map, buffer: &mut [u8]) -> Result<(), Refusal> {
+    if !(1..=64).contains(&map.k) {
+        return Err((3, 0));
+    }
+    let k = usize::from(map.k);
+    accept(&map.neighbours[..k])?;
+    let needed = ROW * k + TRAILER;
+    let Some(filled) = buffer.get_mut(..needed) else { return Err((15, needed as u32)) };
+    let (rows, trailer) = filled.split_at_mut(ROW * k);
+    let mut sum = 0u32;
+    for ((row, count), set) in rows.chunks_exact_mut(ROW).zip(map.counts).zip(map.neighbours) {
+        row[..4].copy_from_slice(&count.to_le_bytes());
+        row[4..].copy_from_slice(&set.to_le_bytes());
+        sum = sum.wrapping_add(count).wrapping_add(set as u32).wrapping_add((set >> 32) as u32);
+    }
+    for (at, field) in [u32::from(map.k) | (ROW as u32) << 16, (ROW * k) as u32, map.lot].into_iter().enumerate() {
+        trailer[4 * at..4 * at + 4].copy_from_slice(&field.to_le_bytes());
+        sum = sum.wrapping_add(field);
+    }
+    trailer[12..].copy_from_slice(&sum.wrapping_neg().to_le_bytes());
+    Ok(())
+}
+
+fn word(bytes: &[u8]) -> u32 {
+    u32::from_le_bytes([bytes[0], bytes[1], bytes[2], bytes[3]])
+}
+
+fn accept(sets: &[u64]) -> Result<(), Refusal> {
+    let k = sets.len();
+    let stations = u64::MAX >> (64 - k);
+    lowest(sets, 7, |_, set| set & !stations != 0)?;
+    lowest(sets, 8, |i, set| set >> i & 1 != 0)?;
+    let namers = transposed(sets);
+    lowest(sets, 9, |i, set| set & !namers[i] != 0)?;
+    let apart = stations & !reached(sets);
+    lowest(sets, 10, |i, _| apart >> i & 1 != 0)
+}
+
+fn lowest(sets: &[u64], number: u8, offends: impl Fn(usize, u64) -> bool) -> Result<(), Refusal> {
+    match sets.iter().enumerate().find(|&(i, &set)| offends(i, set)) {
+        Some((i, _)) => Err((number, i as u32)),
+        None => Ok(()),
+    }
+}
+
+/// Who names each station: the sets as a matrix of bits, transposed block by block.
+fn transposed(sets: &[u64]) -> [u64; 64] {
+    let mut rows = [0; 64];
+    rows[..sets.len()].copy_from_slice(sets);
+    let (mut width, mut mask) = (32, u64::MAX >> 32);
+    while width != 0 {
+        let mut i = 0;
+        while i < 64 {
+            let swapped = (rows[i] >> width ^ rows[i + width]) & mask;
+            rows[i] ^= swapped << width;
+            rows[i + width] ^= swapped;
+            i = (i + width + 1) & !width;
+        }
+        width >>= 1;
+        mask ^= mask << width;
+    }
+    rows
+}
+
+fn reached(sets: &[u64]) -> u64 {
+    let (mut reached, mut ahead) = (1, 1u64);
+    while ahead != 0 {
+        let new = sets[ahead.trailing_zeros() as usize] & !reached;
+        ahead = (ahead & (ahead - 1)) | new;
+        reached |= new;
+    }
+    reached
+}

@@ -1,0 +1,129 @@
+use super::stations::{are_in_form, fresh as fresh_stations, in_state, member};
+use super::Refusal;
+use conformance::model::map::Map;
+use conformance::model::meet::{Meet, ANSWER, PASS, REPORT, WAKE};
+use conformance::model::net::Step;
+use conformance::model::station::{Station, ACTIVE, ASLEEP, FINISHED};
+use conformance::model::SUM_LIMIT;
+
+pub fn fresh(map: &Map) -> Meet {
+    Meet { k: map.k, stations: fresh_stations(map) }
+}
+
+pub fn draw(net: &mut Meet, draw: u16) -> Result<Step, Refusal> {
+    if !are_in_form(net.k, &net.stations) {
+        return Err((11, 0));
+    }
+    let mut awake = Awake::of(net);
+    let step = awake.pick(net, draw).ok_or((14, 0))?;
+    awake.make(net, step);
+    Ok(step)
+}
+
+/// The steps made, and whether the net is at rest; the same with 11 where it leaves the form.
+pub fn run(net: &mut Meet, draws: &[u16]) -> Result<(usize, bool), usize> {
+    if !are_in_form(net.k, &net.stations) {
+        return Err(0);
+    }
+    let mut awake = Awake::of(net);
+    for (steps, &draw) in draws.iter().enumerate() {
+        let Some(step) = awake.pick(net, draw) else { return Ok((steps, true)) };
+        awake.make(net, step);
+        // the only thing that a step may take out of form
+        if net.stations[usize::from(step.receiver)].sum >= SUM_LIMIT {
+            return Err(steps + 1);
+        }
+    }
+    Ok((draws.len(), awake.pick(net, 0).is_none()))
+}
+
+/// Which stations are asleep and which active, kept up to date.
+struct Awake {
+    asleep: u64,
+    active: u64,
+}
+
+impl Awake {
+    fn of(net: &Meet) -> Awake {
+        let set = |state| in_state(net.k, &net.stations, state);
+        Awake { asleep: set(ASLEEP), active: set(ACTIVE) }
+    }
+
+    /// Entry d mod c of the allowed steps.
+    fn pick(&self, net: &Meet, draw: u16) -> Option<Step> {
+        let (mut wakes, mut passes, mut ready) = (0, 0, 0u64);
+        let mut senders = self.active;
+        while senders != 0 {
+            let i = senders.trailing_zeros();
+            senders &= senders - 1;
+            let station = &net.stations[i as usize];
+            wakes += (station.unstarted & self.asleep).count_ones();
+            passes += (station.unstarted & self.active).count_ones();
+            ready |= u64::from(is_ready(station) && (i == 0 || self.active >> station.parent & 1 != 0)) << i;
+        }
+        let (answers, reports) = (ready & !1, ready as u32 & 1);
+        let count = wakes + passes + answers.count_ones() + reports;
+        if count == 0 {
+            return None;
+        }
+        let mut entry = u32::from(draw) % count;
+        if entry < wakes {
+            return Some(self.start(net, WAKE, self.asleep, entry));
+        }
+        entry -= wakes;
+        if entry < passes {
+            return Some(self.start(net, PASS, self.active, entry));
+        }
+        entry -= passes;
+        if entry < answers.count_ones() {
+            let sender = member(answers, entry);
+            return Some(Step { kind: ANSWER, sender, receiver: net.stations[usize::from(sender)].parent });
+        }
+        Some(Step { kind: REPORT, sender: 0, receiver: 0 })
+    }
+
+    /// The start with a number of others before it, to receivers in one state.
+    fn start(&self, net: &Meet, kind: u8, receivers: u64, mut entry: u32) -> Step {
+        let mut senders = self.active;
+        loop {
+            let sender = senders.trailing_zeros() as u8;
+            let to = net.stations[usize::from(sender)].unstarted & receivers;
+            if entry < to.count_ones() {
+                return Step { kind, sender, receiver: member(to, entry) };
+            }
+            entry -= to.count_ones();
+            senders &= senders - 1;
+        }
+    }
+
+    fn make(&mut self, net: &mut Meet, Step { kind, sender, receiver }: Step) {
+        let from = &mut net.stations[usize::from(sender)];
+        if kind == WAKE || kind == PASS {
+            from.unstarted &= !(1 << receiver);
+            let to = &mut net.stations[usize::from(receiver)];
+            if kind == PASS {
+                to.waits = to.waits.saturating_sub(1);
+                return;
+            }
+            to.parent = sender;
+            to.waits = (to.unstarted.count_ones() as u8).saturating_sub(1);
+            to.unstarted &= !(1 << sender);
+            to.state = ACTIVE;
+            self.asleep &= !(1 << receiver);
+            self.active |= 1 << receiver;
+            return;
+        }
+        from.state = FINISHED;
+        self.active &= !(1 << sender);
+        if kind == ANSWER {
+            let sum = from.sum;
+            let to = &mut net.stations[usize::from(receiver)];
+            to.sum += sum;
+            to.waits = to.waits.saturating_sub(1);
+        }
+    }
+}
+
+fn is_ready(station: &Station) -> bool {
+    station.unstarted == 0 && station.waits == 0
+}

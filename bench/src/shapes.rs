@@ -1,0 +1,43 @@
+//! The maps that are timed.
+
+use conformance::model::map::Map;
+
+/// A name, and the map of that shape with k stations.
+type Shape = (&'static str, fn(u8) -> Map);
+
+pub const SHAPES: [Shape; 3] = [("ring", ring), ("tree", tree), ("clique", clique)];
+
+fn of_links(k: u8, links: impl Iterator<Item = (u8, u8)>) -> Map {
+    let mut map = Map::empty(k, 42);
+    for (a, b) in links {
+        map.neighbours[usize::from(a)] |= 1 << b;
+        map.neighbours[usize::from(b)] |= 1 << a;
+    }
+    for (i, count) in (0..u32::from(k)).zip(&mut map.counts) {
+        *count = 1_000_003 * (i + 1);
+    }
+    map
+}
+
+fn ring(k: u8) -> Map {
+    of_links(k, (0..k).map(|i| (i, (i + 1) % k)))
+}
+
+/// Two below each.
+fn tree(k: u8) -> Map {
+    of_links(k, (1..k).map(|i| ((i - 1) / 2, i)))
+}
+
+pub fn clique(k: u8) -> Map {
+    of_links(k, (0..k).flat_map(|b| (0..b).map(move |a| (a, b))))
+}
+
+/// Draws enough for a whole wave, the same each time.
+pub fn draws(map: &Map) -> Vec<u16> {
+    let mut state = 9640u32;
+    let mut draw = || {
+        state = state.wrapping_mul(1_664_525).wrapping_add(1_013_904_223);
+        (state >> 16) as u16
+    };
+    (0..2 * map.links() + 1).map(|_| draw()).collect()
+}

@@ -1,0 +1,5 @@
+pub mod Lent
+pub mod Given
+pub mod Calls
+pub mod Maps
+pub mod Openings

@@ -1,0 +1,18 @@
+-- `capi::rendezvous_net::draw` meets its contract: what `rendezvous::draw` comes to, in numbers. Assumes nothing.
+use mathlib.Core.Path.{_∙_, ap}
+use borrow.Author.Needs.{needs}
+use Rattle.capi.specs.Steps.{stepCall}
+use Rattle.capi.proofs.rendezvous_net.draw.Statement.{statement}
+use Rattle.capi.proofs.rendezvous_net.draw.Tie as tie
+
+draw-requires : tie.Need-draw-requires
+draw-requires c κs = search needs
+
+from-stepped-requires : tie.Need-from-stepped-requires
+from-stepped-requires c κs = search needs
+
+returns : tie.Need-returns
+returns c = c .from-stepped .ensures ∙ ap stepCall (c .before .draw .ensures)
+
+pub draw-spec : {M : Type 1} → statement M
+draw-spec = tie.close (tie.spec draw-requires from-stepped-requires returns)

@@ -1,0 +1,14 @@
+-- `capi::rendezvous_net::from_stepped` meets its contract: the answer's numbers, packed, and the net. Assumes nothing.
+use borrow.Author.Needs.{needs}
+use Rattle.capi.proofs.Calls.{answer-call}
+use Rattle.capi.proofs.rendezvous_net.from_stepped.Statement.{statement}
+use Rattle.capi.proofs.rendezvous_net.from_stepped.Tie as tie
+
+number-requires : tie.Need-number-requires
+number-requires c κs = search needs
+
+returns : tie.Need-returns
+returns c = answer-call (c .before .before .args .stepped .answer) _ _ (c .number .ensures)
+
+pub from-stepped-spec : {M : Type 1} → statement M
+from-stepped-spec = tie.close (tie.spec number-requires returns)

@@ -1,0 +1,5 @@
+pub mod Answers
+pub mod Process
+pub mod Map
+pub mod Steps
+pub mod Rendezvous

@@ -1,0 +1,32 @@
+-- Steps, draws and runs from C, on either kind of net (document 01, "Stations that meet" and "Stations with mail").
+use mathlib.Core.Bool.{Bool, cond}
+use mathlib.Core.List.{List, [], _∷_}
+use Prim.Native.Nat.{ℕ}
+use Rattle.schedule.specs.declared.Step.{Step}
+use Rattle.schedule.specs.declared.Answer.{Answer}
+use Rattle.schedule.specs.Outcome.{Outcome, outcomeOf, RunOutcome}
+use Rattle.capi.specs.declared.steps.Run.{Run}
+use Rattle.capi.specs.Answers.{packed, Called, called}
+
+-- "A step has a kind, a sender and a receiver"
+abbrev pub stepAt : ℕ → ℕ → ℕ → Step
+stepAt kind sender receiver = record { kind = kind; sender = sender; receiver = receiver }
+
+-- the values that an accepted step or draw comes with: the step made
+abbrev pub stepValues : List Step → List ℕ
+stepValues [] = []
+stepValues (s ∷ l) = s .kind ∷ s .sender ∷ s .receiver ∷ []
+
+abbrev pub stepCall : {Net : Type 0} → Outcome Net → Called ℕ Net
+stepCall o = called (packed (o .number ∷ stepValues (o .made))) (o .net)
+
+-- the number and the values of an answer, whatever the net
+abbrev pub answerNumbers : Answer → List ℕ
+answerNumbers a = outcomeOf {Net = Unit {0}} a tt .number ∷ stepValues (outcomeOf {Net = Unit {0}} a tt .made)
+
+-- "it gives the net, the number of steps made and whether it is at rest"
+abbrev pub runOf : ℕ → ℕ → Bool → Run
+runOf number steps rest = record { answer = packed (number ∷ cond rest 1 0 ∷ []); steps = steps }
+
+abbrev pub runCall : {Net : Type 0} → RunOutcome Net → Called Run Net
+runCall o = called (runOf (o .number) (o .steps) (o .rest)) (o .net)

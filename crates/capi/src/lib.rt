@@ -1,0 +1,6 @@
+// The library for C and for Rust (`rt staticlib capi`): every call on numbers, slices and records that the caller lends. include/tally.h
+// says what each takes, answers and leaves.
+mod map;
+mod process;
+mod rendezvous_net;
+mod steps;

@@ -1,0 +1,62 @@
+/* A controller's side of the tally. It keeps one station record and lends it to each event, which alters it there; there is nothing to
+   open, to close or to allocate.
+
+   This one is station 1 of document 01's triangle: count 7, linked to 0 and 2. Its links bring a start from station 0, a spoiled frame,
+   and the answer of station 2; what it sends is printed. */
+#include "tally.h"
+#include <inttypes.h>
+#include <stdio.h>
+
+struct frame {
+    enum { START, ANSWER } kind;
+    uint8_t from;
+    struct tally_aggregate gathered; /* of an answer */
+};
+
+/* Hand a frame to the station. Nothing has to be checked before: what the station can't take is refused, and leaves the record. */
+static void take(struct tally_process *p, const struct frame *f)
+{
+    uint64_t answer = f->kind == START ? tally_process_take_start(p, f->from) : tally_process_take_answer(p, f->gathered);
+
+    if (f->kind == START)
+        printf("take start from %u: ", f->from);
+    else
+        printf("take answer %" PRIu64 " from %u: ", f->gathered.sum, f->from);
+    if (TALLY_NUMBER(answer) != 0)
+        printf("refused %u\n", TALLY_NUMBER(answer));
+    else
+        printf("parent %u, waits %u, sum %" PRIu64 "\n", p->station.parent, p->station.waits, p->station.held.sum);
+}
+
+/* Send all that may be sent now: a start to each neighbour still to be started, and the answer once nothing is waited for. What may not
+   be sent is refused with 13, so it is enough to try. */
+static void send(struct tally_process *p)
+{
+    for (uint8_t to = 0; to < TALLY_STATIONS; to++)
+        if (TALLY_NUMBER(tally_process_send_start(p, to)) == 0)
+            printf("send start to %u\n", to);
+
+    uint64_t answer = tally_process_send_answer(p);
+    if (TALLY_NUMBER(answer) == 0)
+        printf("send answer %" PRIu64 " to %u\n", p->station.held.sum, (unsigned)TALLY_VALUE(answer));
+}
+
+int main(void)
+{
+    /* At the end of a lot: the count, a bit for each neighbour, as many waits as neighbours, asleep. */
+    struct tally_process station = {
+        .own = 1,
+        .station = {.held = {.sum = 7}, .unstarted = 1u << 0 | 1u << 2, .parent = 0, .waits = 2, .state = 0},
+    };
+    const struct frame inbox[] = {
+        {.kind = START, .from = 0},
+        {.kind = START, .from = 200},
+        {.kind = ANSWER, .from = 2, .gathered = {.sum = 11}},
+    };
+
+    for (size_t i = 0; i < sizeof inbox / sizeof inbox[0]; i++) {
+        take(&station, &inbox[i]);
+        send(&station);
+    }
+    return 0;
+}

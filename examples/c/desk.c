@@ -1,0 +1,70 @@
+/* A desk's side of the tally. It reads the line map that stands at the end of some bytes, opens a net on it, and lets draws pick the
+   steps until the desk has reported. All it keeps is the map and the net.
+
+   The map is document 01's triangle, lot 42. It is run twice: draw by draw, with a line for each step, and in another order in one call,
+   which gives the same total. */
+#include "tally.h"
+#include <inttypes.h>
+#include <stdio.h>
+
+static const uint8_t stored[] = {
+    /* a row for each station: count (4 bytes), then a bit for each neighbour (8 bytes) */
+    5, 0, 0, 0, 1 << 1 | 1 << 2, 0, 0, 0, 0, 0, 0, 0,
+    7, 0, 0, 0, 1 << 0 | 1 << 2, 0, 0, 0, 0, 0, 0, 0,
+    11, 0, 0, 0, 1 << 0 | 1 << 1, 0, 0, 0, 0, 0, 0, 0,
+    /* stations, row length, distance back to the first row, lot, and the check word that makes all words add to zero */
+    3, 0, 12, 0, 36, 0, 0, 0, 42, 0, 0, 0, 0x8a, 0xff, 0xf3, 0xff,
+};
+
+/* One step, as its answer tells it. The sender's sum is what it answers or reports. */
+static void print_step(const struct tally_rendezvous *net, uint64_t answer)
+{
+    static const char *const kinds[] = {"", "wake", "pass", "answer", "report"};
+    uint8_t kind = TALLY_KIND(answer), sender = TALLY_SENDER(answer), receiver = TALLY_RECEIVER(answer);
+
+    printf("%s %u", kinds[kind], sender);
+    if (kind != 4)
+        printf(" %u", receiver);
+    if (kind >= 3)
+        printf(" %" PRIu64, net->stations[sender].held.sum);
+    printf("\n");
+}
+
+/* Draw 0 picks the first of the allowed steps each time. 14 says that nothing is allowed any more: the desk has reported. */
+static unsigned draw_by_draw(struct tally_rendezvous *net)
+{
+    unsigned steps = 0;
+    uint64_t answer;
+
+    while (TALLY_NUMBER(answer = tally_rendezvous_draw(net, 0)) == 0) {
+        print_step(net, answer);
+        steps++;
+    }
+    printf("refused %u\n", TALLY_NUMBER(answer));
+    return steps;
+}
+
+int main(void)
+{
+    static const uint16_t draws[] = {0, 1, 0, 0, 0, 0, 0, 0};
+    struct tally_map map;
+    struct tally_rendezvous net;
+
+    /* Bytes that came damaged, here with one missing, are refused, and nothing is written: the map may be asked for again. */
+    printf("refused %u\n", TALLY_NUMBER(tally_map_read(&map, stored + 1, sizeof stored - 1)));
+
+    uint64_t answer = tally_map_read(&map, stored, sizeof stored);
+    if (TALLY_NUMBER(answer) != 0)
+        return 1;
+    uint64_t links = TALLY_VALUE(tally_map_links(map));
+
+    tally_rendezvous_fresh(&net, map); /* a map that was read is accepted */
+    unsigned steps = draw_by_draw(&net);
+    printf("lot %" PRIu32 " steps %u links %" PRIu64 "\n", map.lot, steps, links);
+
+    tally_rendezvous_fresh(&net, map);
+    struct tally_run run = tally_rendezvous_run(&net, draws, sizeof draws / sizeof draws[0]);
+    printf("run: steps %" PRIu64 ", at rest %" PRIu64 ", total %" PRIu64 ", station 2 hung on %u\n", run.steps, TALLY_VALUE(run.answer),
+           net.stations[0].held.sum, net.stations[2].parent);
+    return 0;
+}

@@ -1,0 +1,132 @@
+/* The lot tally for C: the functions of libcapi.a, which `rt staticlib capi` writes (x86-64 Linux, System V calling convention). Link it
+   after the sources, -lcapi. It keeps nothing, writes nothing but what a call is lent without const, and of
+   other code needs only memcpy, memmove, memset and memcmp.
+
+   Every call is total: any bytes, numbers, words or records may be handed over. Its answer has document 01's number in the low byte, 0
+   where nothing is refused, and above it the value or values that come with that number:
+       answer = number + 256 * value
+   A refusal leaves all that was lent as it was, but for a run that stops with 11: it leaves the net reached. Pointers are never null, and point to that many elements, or to one record. What a call
+   writes overlaps nothing else that it is lent. */
+#ifndef TALLY_H
+#define TALLY_H
+#include <stddef.h>
+#include <stdint.h>
+
+#define TALLY_NUMBER(answer) ((uint8_t)(answer))
+#define TALLY_VALUE(answer) ((answer) >> 8)
+
+enum { TALLY_STATIONS = 64 };
+
+/* ---- one station --------------------------------------------------------------------------------------------------------------------
+
+   What a station has gathered. */
+struct tally_aggregate {
+    uint64_t sum;
+};
+
+/* A station: its sum, the neighbours still to be started (bit j is station j), parent, waits, and state: 0 asleep, 1 active, 2 finished. */
+struct tally_station {
+    struct tally_aggregate held;
+    uint64_t unstarted;
+    uint8_t parent;
+    uint8_t waits;
+    uint8_t state;
+};
+
+/* A station with its own number, as a controller keeps it. */
+struct tally_process {
+    uint8_t own;
+    struct tally_station station;
+};
+
+_Static_assert(sizeof(struct tally_aggregate) == 8, "tally_aggregate");
+_Static_assert(sizeof(struct tally_station) == 24, "tally_station");
+_Static_assert(offsetof(struct tally_station, unstarted) == 8, "unstarted");
+_Static_assert(offsetof(struct tally_station, parent) == 16, "parent");
+_Static_assert(offsetof(struct tally_station, waits) == 17, "waits");
+_Static_assert(offsetof(struct tally_station, state) == 18, "state");
+_Static_assert(sizeof(struct tally_process) == 32, "tally_process");
+_Static_assert(offsetof(struct tally_process, station) == 8, "station");
+
+/* The events: 0, or 11 (station out of form), 12 (station number or sum out of range), 13 (not allowed), which leave the record. An
+   accepted event leaves the station after it. */
+uint64_t tally_process_take_start(struct tally_process *p, uint8_t from);
+uint64_t tally_process_send_start(struct tally_process *p, uint8_t to);
+uint64_t tally_process_take_answer(struct tally_process *p, struct tally_aggregate v);
+
+/* 0 comes with the parent, as the value. The sum that is given is p->station.held. Station 0 reports; the others answer. */
+uint64_t tally_process_send_answer(struct tally_process *p);
+uint64_t tally_process_report(struct tally_process *p);
+
+/* ---- line maps ----------------------------------------------------------------------------------------------------------------------
+
+   k stations, 1 to 64, numbered from 0; the lot; and the count and the neighbours of each (bit j is station j). Places k and above are
+   zero after reading, and otherwise ignored. */
+struct tally_map {
+    uint8_t k;
+    uint32_t lot;
+    uint32_t counts[TALLY_STATIONS];
+    uint64_t neighbours[TALLY_STATIONS];
+};
+
+_Static_assert(sizeof(struct tally_map) == 776, "tally_map");
+_Static_assert(offsetof(struct tally_map, lot) == 4, "lot");
+_Static_assert(offsetof(struct tally_map, counts) == 8, "counts");
+_Static_assert(offsetof(struct tally_map, neighbours) == 264, "neighbours");
+
+/* Reads the last map in the bytes: 0, or 1 to 10, which leave *map; 7 to 10 come with the station. */
+uint64_t tally_map_read(struct tally_map *map, const uint8_t *bytes, size_t length);
+
+/* Writes the stored form from the first byte: 0 with the number of bytes filled, or 3, 7 to 10 with the station, 15 with the length
+   needed, which leave the bytes. What stands past the bytes filled is left. */
+uint64_t tally_map_write(struct tally_map map, uint8_t *bytes, size_t length);
+
+/* Whether a map is accepted: 0, or 3, or 7 to 10 with the lowest offender. */
+uint64_t tally_map_accept(struct tally_map map);
+
+/* The number of links of an accepted map: 0 with it, or 3, or 7 to 10 with the station. */
+uint64_t tally_map_links(struct tally_map map);
+
+/* ---- stations that meet -------------------------------------------------------------------------------------------------------------
+
+   What a net is opened with: its number of stations. */
+struct tally_config {
+    uint8_t k;
+};
+
+struct tally_rendezvous {
+    struct tally_config config;
+    struct tally_station stations[TALLY_STATIONS];
+};
+
+/* What a run answers: 0 or 11 in the low byte of `answer`, with 1 as the value where the net reached is at rest; and the steps made. */
+struct tally_run {
+    uint64_t answer;
+    uint64_t steps;
+};
+
+_Static_assert(sizeof(struct tally_config) == 1, "tally_config");
+_Static_assert(sizeof(struct tally_rendezvous) == 1544, "tally_rendezvous");
+_Static_assert(offsetof(struct tally_rendezvous, stations) == 8, "stations");
+_Static_assert(sizeof(struct tally_run) == 16, "tally_run");
+_Static_assert(offsetof(struct tally_run, steps) == 8, "steps");
+
+/* The step that an accepted step or draw made. Kinds: 1 wake, 2 pass, 3 answer, 4 report. */
+#define TALLY_KIND(answer) ((uint8_t)((answer) >> 8))
+#define TALLY_SENDER(answer) ((uint8_t)((answer) >> 16))
+#define TALLY_RECEIVER(answer) ((uint8_t)((answer) >> 24))
+
+/* Opens the fresh net of a map: 0, or 3, or 7 to 10 with the station, which leave *net. */
+uint64_t tally_rendezvous_fresh(struct tally_rendezvous *net, struct tally_map map);
+
+/* One step: 0 with the step made (kind, sender, receiver), or 11, 12, 13, which leave *net. */
+uint64_t tally_rendezvous_step(struct tally_rendezvous *net, uint8_t kind, uint8_t sender, uint8_t receiver);
+
+/* The step that draw d picks: 0 with the step made, or 11, or 14 (nothing allowed), which leave *net. */
+uint64_t tally_rendezvous_draw(struct tally_rendezvous *net, uint16_t d);
+
+/* The steps that the draws pick, until they are used up or the net is at rest. A run that starts outside the form or leaves it stops with
+   11, and has left in *net the net that it reached. */
+struct tally_run tally_rendezvous_run(struct tally_rendezvous *net, const uint16_t *draws, size_t count);
+
+#endif

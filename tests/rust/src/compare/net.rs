@@ -1,0 +1,164 @@
+//! Nets of either kind: answer, values and whole net after every call, and demand 3 on every list from a fresh net.
+
+use super::Coverage;
+use crate::calls::{Call, Model, NetCalls, Reply};
+use crate::gen::call;
+use crate::gen::map::{accepted, all_linked, handed_over};
+use crate::gen::net::{any, junk, Sample};
+use crate::model::demand::{check_run_formula, Record};
+use crate::model::map::Map;
+use crate::model::net::Net;
+use crate::model::refusal::number;
+use crate::rng::{for_cases, Rng};
+
+/// One call on the subject and on the model.
+fn compare<N: Net>(subject: &impl NetCalls<N>, net: &mut N, call: &Call, seen: &mut Coverage) -> Reply {
+    let mut due = net.clone();
+    let expected = Model.call(&mut due, call);
+    let reply = subject.call(net, call);
+    assert_eq!(reply, expected, "{call:?}");
+    assert_same(net, &due, call);
+    note(call, &reply, seen);
+    reply
+}
+
+/// Whole nets agree; the first place that does not is shown.
+fn assert_same<N: Net>(given: &N, due: &N, after: &impl std::fmt::Debug) {
+    for (own, (given, due)) in given.stations().iter().zip(due.stations()).enumerate() {
+        assert_eq!(given, due, "station {own} after {after:?}");
+    }
+    assert!(given == due, "k or messages after {after:?}");
+}
+
+fn note(call: &Call, reply: &Reply, seen: &mut Coverage) {
+    match (call, reply) {
+        (_, Reply::Step(Ok(step))) => seen.note("kind", step.kind),
+        (_, Reply::Draw(Ok(step))) => seen.note("kind drawn", step.kind),
+        (_, Reply::Run(run)) if run.refusal.is_some() && run.steps > 0 => seen.note("run left the form", 11),
+        (_, Reply::Run(run)) if run.at_rest => seen.note("run to rest", 0),
+        _ => {}
+    }
+    let name = match call {
+        Call::Step(_) => "step",
+        Call::Draw(_) => "draw",
+        Call::Run(_) => "run",
+    };
+    seen.note(name, reply.number());
+}
+
+/// The fresh net of a map handed over, laid over anything.
+fn fresh<N: Sample>(subject: &impl NetCalls<N>, rng: &mut Rng, map: &Map, seen: &mut Coverage) -> N {
+    let mut given: N = junk(rng);
+    let mut due = given.clone();
+    let expected = Model.fresh(map, &mut due);
+    assert_eq!(subject.fresh(map, &mut given), expected, "the fresh net of {map:?}");
+    assert_same(&given, &due, map);
+    seen.note("fresh", number(&expected));
+    given
+}
+
+/// Fresh nets of maps good and bad.
+pub fn freshness<N: Sample>(subject: &impl NetCalls<N>, count: u64) {
+    let mut seen = Coverage::default();
+    for_cases(count, |rng| {
+        let map = handed_over(rng);
+        fresh(subject, rng, &map, &mut seen);
+    });
+    seen.require("fresh", [0, 3, 7, 8, 9, 10]);
+}
+
+/// Calls on nets that a caller may hand over, in form or not.
+pub fn hostile<N: Sample>(subject: &impl NetCalls<N>, count: u64) {
+    let mut seen = Coverage::default();
+    for_cases(count, |rng| {
+        let mut net: N = any(rng);
+        for _ in 0..4 {
+            let call = call::any(rng, &net, 8);
+            compare(subject, &mut net, &call, &mut seen);
+        }
+    });
+    seen.require("step", [0, 11, 12, 13]);
+    seen.require("draw", [0, 11, 14]);
+    seen.require("run", [0, 11]);
+    seen.require("run left the form", [11]);
+    require_kinds::<N>(&seen);
+}
+
+fn require_kinds<N: Net>(seen: &Coverage) {
+    seen.require("kind", 1..=N::REPORT);
+    seen.require("kind drawn", 1..=N::REPORT);
+    seen.require("run to rest", [0]);
+}
+
+/// Lists of calls from fresh nets of accepted maps; demand 3 holds on each.
+pub fn lists<N: Sample>(subject: &impl NetCalls<N>, count: u64) {
+    let mut seen = Coverage::default();
+    for_cases(count, |rng| {
+        let map = accepted(rng);
+        let net: N = fresh(subject, rng, &map, &mut seen);
+        list(subject, rng, &map, net, |net, call| compare(subject, net, call, &mut seen));
+    });
+    seen.require("step", [0, 12, 13]);
+    seen.require("draw", [0, 14]);
+    require_kinds::<N>(&seen);
+}
+
+/// One list: some calls; in half of the lists then a run with draws enough for all, and some calls more. Demand 3 is
+/// checked from what `make` gives for each call.
+pub fn list<N: Sample>(
+    subject: &impl NetCalls<N>,
+    rng: &mut Rng,
+    map: &Map,
+    mut net: N,
+    mut make: impl FnMut(&mut N, &Call) -> Reply,
+) {
+    let whole = Record::whole(map);
+    let count = rng.index(whole + 3);
+    check_run_formula(subject, map, &net, &call::draws(rng, count));
+    let mut record = Record::new::<N>(map);
+    let mut enter = |rng: &mut Rng, call: Option<Call>| {
+        let call = call.unwrap_or_else(|| call::any(rng, &net, whole / 4 + 2));
+        let before = net.clone();
+        let reply = make(&mut net, &call);
+        record.enter(subject, &before, &call, &reply, &net);
+    };
+    (0..rng.below(30)).for_each(|_| enter(rng, None));
+    if rng.chance(50) {
+        let draws = call::draws(rng, whole);
+        enter(rng, Some(Call::Run(draws)));
+        (0..rng.below(6)).for_each(|_| enter(rng, None));
+    }
+    record.close(subject, &net);
+}
+
+/// One full run on 64 stations all linked, and demand 3 on it.
+pub fn full_run<N: Sample>(subject: &impl NetCalls<N>) {
+    let map = all_linked(64);
+    for_cases(2, |rng| {
+        let mut seen = Coverage::default();
+        let mut net: N = fresh(subject, rng, &map, &mut seen);
+        let before = net.clone();
+        let call = Call::Run(call::draws(rng, Record::whole(&map) + 1));
+        let reply = compare(subject, &mut net, &call, &mut seen);
+        let mut record = Record::new::<N>(&map);
+        record.enter(subject, &before, &call, &reply, &net);
+        record.close(subject, &net);
+    });
+}
+
+/// Both kinds of net report the same number for the same map, in any order of steps.
+pub fn kinds_agree<A: Sample, B: Sample>(left: &impl NetCalls<A>, right: &impl NetCalls<B>, count: u64) {
+    for_cases(count, |rng| {
+        let map = accepted(rng);
+        assert_eq!(reported(left, rng, &map), reported(right, rng, &map), "the number reported for {map:?}");
+    });
+}
+
+/// The number that a whole wave in a random order reports.
+fn reported<N: Sample>(subject: &impl NetCalls<N>, rng: &mut Rng, map: &Map) -> u64 {
+    let mut net: N = junk(rng);
+    subject.fresh(map, &mut net).expect("the map is accepted");
+    let draws = call::draws(rng, Record::whole(map));
+    assert!(subject.run(&mut net, &draws).at_rest, "a whole wave comes to rest");
+    net.stations()[0].sum
+}

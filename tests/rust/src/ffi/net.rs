@@ -1,0 +1,62 @@
+//! What the wrappers of both kinds of net share.
+
+use super::lending::{lend_mut, lend_slice, LaidOut, Packed};
+use super::{map, Library};
+use crate::calls::NetCalls;
+use crate::model::map::Map;
+use crate::model::net::{Run, Step};
+use crate::model::refusal::Refusal;
+
+/// What a run returns: its number, with 1 where the net is at rest, and the steps made.
+#[repr(C)]
+pub struct RunAnswer {
+    pub answer: Packed,
+    pub steps: u64,
+}
+
+/// The exported functions of one kind of net, over its layout.
+pub trait Exports {
+    fn fresh(&mut self, map: map::Map) -> Packed;
+
+    /// A step and a draw come with the step made.
+    fn step(&mut self, step: Step) -> Packed;
+
+    fn draw(&mut self, draw: u16) -> Packed;
+
+    /// # Safety
+    /// As many draws as `length` says stand there.
+    unsafe fn run(&mut self, draws: *const u16, length: usize) -> RunAnswer;
+}
+
+/// The step made: kind, sender, receiver, a byte each.
+fn made(packed: Packed) -> Result<Step, Refusal> {
+    let value = packed.given()?;
+    let [kind, sender, receiver, above @ ..] = value.to_le_bytes();
+    assert_eq!(above, [0; 5], "a step has three numbers");
+    Ok(Step { kind, sender, receiver })
+}
+
+impl<N: LaidOut> NetCalls<N> for Library
+where
+    N::Layout: Exports,
+{
+    fn fresh(&self, map: &Map, net: &mut N) -> Result<(), Refusal> {
+        lend_mut(net, |net| net.fresh(map.lay_out())).done()
+    }
+
+    fn step(&self, net: &mut N, step: Step) -> Result<Step, Refusal> {
+        made(lend_mut(net, |net| net.step(step)))
+    }
+
+    fn draw(&self, net: &mut N, draw: u16) -> Result<Step, Refusal> {
+        made(lend_mut(net, |net| net.draw(draw)))
+    }
+
+    fn run(&self, net: &mut N, draws: &[u16]) -> Run {
+        let RunAnswer { answer, steps } =
+            lend_slice(draws, |draws| lend_mut(net, |net| unsafe { net.run(draws.as_mut_ptr(), draws.len()) }));
+        let outcome = answer.given();
+        assert!(matches!(outcome, Ok(0 | 1) | Err(_)), "at rest or not: {outcome:?}");
+        Run { refusal: outcome.err(), steps: steps.try_into().expect("a count"), at_rest: outcome == Ok(1) }
+    }
+}

@@ -1,0 +1,165 @@
+//! Maps: accepted ones of every shape and size, and ones that break the rules 3, 7 to 10.
+
+use crate::model::map::Map;
+use crate::model::{set, MOST_STATIONS, PLACES};
+use crate::rng::Rng;
+
+/// Links between the places of a shape, before the stations are dealt out.
+type Links = Vec<(u8, u8)>;
+
+/// A number of stations: mostly few, so that whole waves stay short, and any of 1 to 64.
+pub fn station_count(rng: &mut Rng) -> u8 {
+    let most = if rng.chance(75) { 8 } else { MOST_STATIONS };
+    1 + rng.station(most)
+}
+
+/// An accepted map, zero past k.
+pub fn accepted(rng: &mut Rng) -> Map {
+    let k = station_count(rng);
+    accepted_of(rng, k)
+}
+
+pub fn accepted_of(rng: &mut Rng, k: u8) -> Map {
+    let mut map = Map::empty(k, rng.bits() as u32);
+    let links = shape(rng, k);
+    let station_at = permutation(rng, k);
+    for (a, b) in links {
+        link(&mut map, station_at[usize::from(a)], station_at[usize::from(b)]);
+    }
+    fill_counts(rng, &mut map);
+    map
+}
+
+/// All stations linked to each other, with the largest counts.
+pub fn all_linked(k: u8) -> Map {
+    let mut map = Map::empty(k, 1);
+    for (a, b) in clique(k) {
+        link(&mut map, a, b);
+    }
+    map.counts[..k.into()].fill(u32::MAX);
+    map
+}
+
+fn link(map: &mut Map, a: u8, b: u8) {
+    map.neighbours[usize::from(a)] |= set::singleton(b);
+    map.neighbours[usize::from(b)] |= set::singleton(a);
+}
+
+fn shape(rng: &mut Rng, k: u8) -> Links {
+    match rng.below(6) {
+        0 => (1..k).map(|i| (i - 1, i)).collect(),
+        1 => (1..k).map(|i| (0, i)).collect(),
+        2 => ring(k),
+        3 => clique(k),
+        4 => tree(rng, k),
+        _ => web(rng, k),
+    }
+}
+
+fn ring(k: u8) -> Links {
+    let closed = if k > 2 { k } else { k - 1 };
+    (0..closed).map(|i| (i, (i + 1) % k)).collect()
+}
+
+fn clique(k: u8) -> Links {
+    (0..k).flat_map(|b| (0..b).map(move |a| (a, b))).collect()
+}
+
+fn tree(rng: &mut Rng, k: u8) -> Links {
+    (1..k).map(|i| (rng.station(i), i)).collect()
+}
+
+fn web(rng: &mut Rng, k: u8) -> Links {
+    let density = rng.below(60);
+    let mut links = tree(rng, k);
+    links.extend(clique(k).into_iter().filter(|_| rng.chance(density)));
+    links
+}
+
+/// Deals the stations out, so that station 0 may stand anywhere in a shape.
+fn permutation(rng: &mut Rng, k: u8) -> Vec<u8> {
+    let mut places: Vec<u8> = (0..k).collect();
+    for last in (1..places.len()).rev() {
+        places.swap(last, rng.index(last + 1));
+    }
+    places
+}
+
+fn fill_counts(rng: &mut Rng, map: &mut Map) {
+    let style = rng.below(4);
+    for count in &mut map.counts[..map.k.into()] {
+        *count = match style {
+            0 => rng.below(20) as u32,
+            1 => u32::MAX,
+            2 => rng.pick(&[0, 1, u32::MAX - 1, u32::MAX]),
+            _ => rng.bits() as u32,
+        };
+    }
+}
+
+/// Anything past k: writing ignores it.
+pub fn litter(rng: &mut Rng, map: &mut Map) {
+    for place in usize::from(map.k)..PLACES {
+        map.counts[place] = rng.bits() as u32;
+        map.neighbours[place] = rng.bits();
+    }
+}
+
+/// A map to hand over: accepted, or with rules broken one at a time or together; past k zero or anything.
+pub fn handed_over(rng: &mut Rng) -> Map {
+    let mut map = accepted(rng);
+    if rng.chance(60) {
+        break_rules(rng, &mut map);
+    }
+    if rng.chance(30) {
+        litter(rng, &mut map);
+    }
+    if rng.chance(5) {
+        map.k = rng.pick(&[0, 65, 66, 128, 255]);
+    }
+    map
+}
+
+/// Breaks one of the rules 7 to 10 or several.
+pub fn break_rules(rng: &mut Rng, map: &mut Map) {
+    let rules: [fn(&mut Rng, &mut Map); 4] = [name_beyond, name_itself, name_one_way, cut_off];
+    if rng.chance(50) {
+        rng.pick(&rules)(rng, map);
+    } else {
+        for rule in rules {
+            if rng.chance(50) {
+                rule(rng, map);
+            }
+        }
+    }
+}
+
+fn name_beyond(rng: &mut Rng, map: &mut Map) {
+    if map.k < MOST_STATIONS {
+        let beyond = map.k + rng.station(MOST_STATIONS - map.k);
+        map.neighbours[usize::from(rng.station(map.k))] |= set::singleton(beyond);
+    }
+}
+
+fn name_itself(rng: &mut Rng, map: &mut Map) {
+    let station = rng.station(map.k);
+    map.neighbours[usize::from(station)] |= set::singleton(station);
+}
+
+/// Adds or drops one direction of a pair.
+fn name_one_way(rng: &mut Rng, map: &mut Map) {
+    if map.k > 1 {
+        let namer = rng.station(map.k);
+        let named = (namer + 1 + rng.station(map.k - 1)) % map.k;
+        map.neighbours[usize::from(namer)] ^= set::singleton(named);
+    }
+}
+
+/// Drops the links between some stations and the rest, both ways.
+fn cut_off(rng: &mut Rng, map: &mut Map) {
+    let island = if rng.chance(50) { set::singleton(rng.station(map.k)) } else { rng.bits() };
+    for i in 0..map.k {
+        let same_side = if set::contains(island, i) { island } else { !island };
+        map.neighbours[usize::from(i)] &= same_side;
+    }
+}

@@ -1,0 +1,10 @@
+//! The lot tally's independent model, written from document 01 and document 001 alone, and the machinery that holds the
+//! proved library and the built program against it.
+
+pub mod calls;
+pub mod compare;
+pub mod edges;
+pub mod ffi;
+pub mod gen;
+pub mod model;
+pub mod rng;

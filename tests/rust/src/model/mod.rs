@@ -1,0 +1,23 @@
+//! The whole product after document 01: maps, one station, both kinds of net, the program, and the claims of demand 3.
+
+pub mod demand;
+pub mod mail;
+pub mod map;
+pub mod meet;
+pub mod net;
+pub mod refusal;
+pub mod set;
+pub mod station;
+pub mod text;
+
+/// Places in a map or a net: k is at most this.
+pub const PLACES: usize = 64;
+
+/// For one station 64 stands for k (document 01, "Causes and numbers").
+pub const MOST_STATIONS: u8 = PLACES as u8;
+
+/// Sums in form are below 2^62, so that adding two of them never wraps.
+pub const SUM_LIMIT: u64 = 1 << 62;
+
+/// Station 0, the desk of document 01.
+pub const ROOT: u8 = 0;

@@ -1,0 +1,128 @@
+//! What both kinds of net share: fresh stations, form, the listing of allowed steps, steps, draws and runs.
+
+use super::map::{self, Map};
+use super::refusal::{admit, Cause, Refusal};
+use super::station::{Station, ACTIVE, ASLEEP, FINISHED};
+use super::{set, MOST_STATIONS, PLACES, ROOT};
+use std::fmt::Debug;
+
+#[derive(Clone, Copy, PartialEq, Eq, PartialOrd, Ord, Debug)]
+pub struct Step {
+    pub kind: u8,
+    pub sender: u8,
+    pub receiver: u8,
+}
+
+/// What a run gives besides the net. A run is refused with 11 where it stands outside the form.
+#[derive(Clone, Copy, PartialEq, Eq, Debug)]
+pub struct Run {
+    pub refusal: Option<Refusal>,
+    pub steps: u32,
+    pub at_rest: bool,
+}
+
+pub trait Net: Clone + PartialEq + Debug {
+    /// The number of the report, which is the last kind.
+    const REPORT: u8;
+
+    /// The fresh net of an accepted map.
+    fn set_up(map: &Map) -> Self;
+
+    fn k(&self) -> u8;
+
+    fn stations(&self) -> &[Station; PLACES];
+
+    fn stations_mut(&mut self) -> &mut [Station; PLACES];
+
+    /// Form (11); it looks at the places below k only.
+    fn is_well_formed(&self) -> bool;
+
+    /// Whether a step in range is allowed in a net in form.
+    fn is_allowed(&self, step: Step) -> bool;
+
+    /// Makes an allowed step.
+    fn make(&mut self, step: Step);
+
+    /// The sums not yet handed on: they add up to the map's total before the report.
+    fn outstanding(&self) -> u64;
+
+    /// The fresh net of a map handed over: refusals 3, 7 to 10.
+    fn fresh(map: &Map) -> Result<Self, Refusal> {
+        map::accept(map)?;
+        Ok(Self::set_up(map))
+    }
+
+    /// Number 12: kind, station numbers, and a report only at 0 and 0.
+    fn is_in_range(&self, step: Step) -> bool {
+        (1..=Self::REPORT).contains(&step.kind)
+            && step.sender < self.k()
+            && step.receiver < self.k()
+            && (step.kind != Self::REPORT || (step.sender, step.receiver) == (ROOT, ROOT))
+    }
+
+    /// The allowed steps of a net in form, by kind, then sender, then receiver, rising.
+    fn listing(&self) -> Vec<Step> {
+        let mut steps = Vec::new();
+        for kind in 1..=Self::REPORT {
+            let stations = if kind == Self::REPORT { 1 } else { self.k() };
+            for sender in 0..stations {
+                let to_any = (0..stations).map(|receiver| Step { kind, sender, receiver });
+                steps.extend(to_any.filter(|&step| self.is_allowed(step)));
+            }
+        }
+        steps
+    }
+
+    /// A step goes 11, 12, 13; it gives the step made.
+    fn step(&mut self, step: Step) -> Result<Step, Refusal> {
+        admit(self.is_well_formed(), || self.is_in_range(step), || self.is_allowed(step))?;
+        self.make(step);
+        Ok(step)
+    }
+
+    /// A draw goes 11, 14; it makes entry d mod c of the c allowed steps and gives it.
+    fn draw(&mut self, draw: u16) -> Result<Step, Refusal> {
+        if !self.is_well_formed() {
+            return Err(Cause::OutOfForm.alone());
+        }
+        let allowed = self.listing();
+        if allowed.is_empty() {
+            return Err(Cause::NothingAllowed.alone());
+        }
+        let step = allowed[usize::from(draw) % allowed.len()];
+        self.make(step);
+        Ok(step)
+    }
+
+    /// A run draws until the draws are used up or the net is at rest, and stops with 11 where it stands outside the
+    /// form: at its start, or after any step, the last one too.
+    fn run(&mut self, draws: &[u16]) -> Run {
+        let steps = draws.iter().take_while(|&&draw| self.draw(draw).is_ok()).count() as u32;
+        if !self.is_well_formed() {
+            return Run { refusal: Some(Cause::OutOfForm.alone()), steps, at_rest: false };
+        }
+        Run { refusal: None, steps, at_rest: self.listing().is_empty() }
+    }
+}
+
+/// Stations fresh for an accepted map; past k they are zero and asleep.
+pub fn fresh_stations(map: &Map) -> [Station; PLACES] {
+    let mut stations = [Station::default(); PLACES];
+    for ((station, &count), &neighbours) in stations.iter_mut().zip(&map.counts).zip(map.sets()) {
+        let waits = set::size(neighbours);
+        *station = Station { sum: count.into(), unstarted: neighbours, parent: ROOT, waits, state: ASLEEP };
+    }
+    stations[usize::from(ROOT)].state = ACTIVE;
+    stations
+}
+
+/// Form of the stations below k, and of k.
+pub fn are_well_formed(k: u8, stations: &[Station; PLACES]) -> bool {
+    (1..=MOST_STATIONS).contains(&k) && (0..k).zip(stations).all(|(own, station)| station.is_well_formed(own, k))
+}
+
+/// Sums of the stations below k that are not finished.
+pub fn unfinished_total(k: u8, stations: &[Station; PLACES]) -> u64 {
+    let below_k = &stations[..k.into()];
+    below_k.iter().filter(|station| station.state != FINISHED).map(|station| station.sum).sum()
+}

@@ -1,0 +1,126 @@
+//! The library from C: the header under strict flags, the test programs of tests/c, and the worked examples of
+//! examples/c with what document 01 implies that they print.
+
+use std::collections::BTreeSet;
+use std::fs;
+use std::path::{Path, PathBuf};
+use std::process::Command;
+
+const STRICT: [&str; 6] = ["-std=c11", "-Wall", "-Wextra", "-Werror", "-pedantic", "-O2"];
+
+/// Set by the build script.
+const ARCHIVE_FOLDER: &str = env!("TALLY_ARCHIVE_FOLDER");
+
+fn in_repository(path: &str) -> PathBuf {
+    Path::new(concat!(env!("CARGO_MANIFEST_DIR"), "/../..")).join(path)
+}
+
+fn archive() -> PathBuf {
+    Path::new(ARCHIVE_FOLDER).join("libcapi.a")
+}
+
+/// What a command prints; it must succeed.
+fn printed(command: &mut Command) -> String {
+    let output = command.output().unwrap_or_else(|error| panic!("{command:?}: {error}"));
+    let said = String::from_utf8_lossy(&output.stderr);
+    assert!(output.status.success(), "{command:?}: {}\n{said}", output.status);
+    String::from_utf8(output.stdout).expect("text")
+}
+
+/// What a C program prints, built against the header and linked with the archive.
+fn run(source: &str, more_flags: &[&str]) -> String {
+    let program = Path::new(env!("CARGO_TARGET_TMPDIR")).join(source.replace(['/', '.'], "-"));
+    let mut gcc = Command::new("gcc");
+    gcc.args(STRICT).args(more_flags).arg("-I").arg(in_repository("include")).arg(in_repository(source));
+    printed(gcc.arg("-L").arg(ARCHIVE_FOLDER).arg("-lcapi").arg("-o").arg(&program));
+    printed(&mut Command::new(program))
+}
+
+/// The functions that the header declares: the names before an opening parenthesis.
+fn declared() -> BTreeSet<String> {
+    let header = fs::read_to_string(in_repository("include/tally.h")).expect("the header is read");
+    let is_part_of_name = |c: char| c.is_ascii_alphanumeric() || c == '_';
+    let names = header.split('(').map(|before| before.rsplit(|c| !is_part_of_name(c)).next().unwrap_or(""));
+    names.filter(|name| name.starts_with("tally_")).map(String::from).collect()
+}
+
+/// The archive's symbols, each with nm's letter for its kind.
+fn symbols() -> Vec<(String, char)> {
+    let listing = printed(Command::new("nm").arg("--format=posix").arg(archive()));
+    // a line for each symbol, after one that names the object
+    let symbol = |line: &str| {
+        let mut fields = line.split(' ');
+        Some((fields.next()?.into(), fields.next()?.chars().next()?))
+    };
+    listing.lines().skip(1).filter_map(symbol).collect()
+}
+
+#[test]
+fn header_stands_alone() {
+    assert_eq!(run("tests/c/header.c", &["-ffreestanding"]), "");
+}
+
+#[test]
+fn header_declares_what_the_archive_exports() {
+    let exported = symbols().into_iter().filter(|&(_, kind)| kind == 'T').map(|(name, _)| name);
+    assert_eq!(exported.collect::<BTreeSet<_>>(), declared());
+}
+
+/// Code and constants only: it keeps no variable, and calls no more than gcc expects of a machine without a C library.
+#[test]
+fn archive_needs_no_c_library() {
+    let given = ["memcpy", "memmove", "memset", "memcmp"];
+    for (name, kind) in symbols() {
+        assert!("TtRr".contains(kind) || given.contains(&name.as_str()), "{name} is of kind {kind}");
+    }
+}
+
+#[test]
+fn one_station() {
+    assert_eq!(run("tests/c/station.c", &[]), "");
+}
+
+#[cfg(feature = "map")]
+#[test]
+fn maps() {
+    assert_eq!(run("tests/c/map.c", &[]), "");
+}
+
+#[cfg(feature = "meet")]
+#[test]
+fn stations_that_meet() {
+    assert_eq!(run("tests/c/meet.c", &[]), "");
+}
+
+/// Station 1 in document 01's second order of the triangle: wake 0 1, wake 1 2, .., answer 2 1 11, answer 1 0 18.
+#[test]
+fn example_controller() {
+    let life = "\
+take start from 0: parent 0, waits 1, sum 7
+send start to 2
+take start from 200: refused 12
+take answer 11 from 2: parent 0, waits 0, sum 18
+send answer 18 to 0
+";
+    assert_eq!(run("examples/c/controller.c", &[]), life);
+}
+
+/// Document 01's example of the program and its closing line; then its second order, where station 1 woke station 2.
+#[cfg(feature = "meet")]
+#[test]
+fn example_desk() {
+    let lots = "\
+refused 5
+wake 0 1
+wake 0 2
+pass 1 2
+pass 2 1
+answer 1 0 7
+answer 2 0 11
+report 0 23
+refused 14
+lot 42 steps 7 links 3
+run: steps 7, at rest 1, total 23, station 2 hung on 1
+";
+    assert_eq!(run("examples/c/desk.c", &[]), lots);
+}

@@ -1,0 +1,28 @@
+//! Document 01's examples on the model, those marked * too.
+
+use conformance::calls::Model;
+use conformance::edges;
+use conformance::model::mail::Mail;
+use conformance::model::meet::Meet;
+use conformance::model::text;
+
+#[test]
+fn maps() {
+    edges::maps(&Model);
+}
+
+#[test]
+fn stations_that_meet() {
+    edges::nets::<Meet>(&Model);
+    edges::orders(&Model);
+}
+
+#[test]
+fn stations_with_mail() {
+    edges::nets::<Mail>(&Model);
+}
+
+#[test]
+fn program() {
+    edges::program(|input| text::output(input).into_bytes());
+}

@@ -1,0 +1,108 @@
+//! The model against the claims of document 01, and the comparisons against the model: they must find no fault in it,
+//! and their cases must meet every refusal.
+
+use conformance::calls::Model;
+use conformance::compare::{map, net, program, station};
+use conformance::edges;
+use conformance::gen::net::any;
+use conformance::model::mail::Mail;
+use conformance::model::meet::{Meet, ANSWER, PASS, REPORT, WAKE};
+use conformance::model::net::{Net, Step};
+use conformance::model::set;
+use conformance::model::station::{ACTIVE, ASLEEP, FINISHED};
+use conformance::rng::for_cases;
+
+#[test]
+fn demand_3_holds_for_stations_that_meet() {
+    net::lists::<Meet>(&Model, 200);
+    net::full_run::<Meet>(&Model);
+}
+
+#[test]
+fn demand_3_holds_for_stations_with_mail() {
+    net::lists::<Mail>(&Model, 200);
+    net::full_run::<Mail>(&Model);
+}
+
+#[test]
+fn both_kinds_report_the_same_number() {
+    net::kinds_agree::<Meet, Mail>(&Model, &Model, 200);
+}
+
+#[test]
+fn cases_meet_every_refusal() {
+    station::at_extremes(&Model);
+    station::lists(&Model, 5_000);
+    map::reading(&Model, 5_000);
+    map::handing_over(&Model, 5_000);
+    net::freshness::<Meet>(&Model, 500);
+    net::freshness::<Mail>(&Model, 500);
+    net::hostile::<Meet>(&Model, 2_000);
+    net::hostile::<Mail>(&Model, 2_000);
+}
+
+#[test]
+fn pipes_carry_the_model_s_program() {
+    let program = program::Program::at(env!("CARGO_BIN_EXE_tally-model"));
+    edges::program(|input| program.output(input, 3));
+    program::inputs(&program, 300);
+    program::length_limit(&program);
+}
+
+/// "Each step .. equals Figure 2": on any net in form, reachable or not, the same steps are allowed and do the same.
+#[test]
+fn steps_equal_figure_2() {
+    for_cases(500, |rng| {
+        let net: Meet = any(rng);
+        if !net.is_well_formed() {
+            return;
+        }
+        let stations = 0..net.k;
+        let steps = stations
+            .clone()
+            .flat_map(|j| stations.clone().flat_map(move |i| (1..=REPORT).map(move |kind| (kind, j, i))));
+        for (kind, j, i) in steps.filter(|&(kind, j, i)| kind != REPORT || (j, i) == (0, 0)) {
+            let step = Step { kind, sender: j, receiver: i };
+            let mut met = net.clone();
+            let accepted = met.step(step).is_ok();
+            assert_eq!(accepted.then_some(met), figure_2(&net, step), "{step:?}");
+        }
+    });
+}
+
+/// The summands of Figure 2 in document 001, as printed: i receives, j sends; none where the guard is false.
+fn figure_2(net: &Meet, step: Step) -> Option<Meet> {
+    let (j, i) = (step.sender, step.receiver);
+    let (sender, receiver) = (net.stations[usize::from(j)], net.stations[usize::from(i)]);
+    let mut next = net.clone();
+    let (to_sender, to_receiver) = (usize::from(j), usize::from(i));
+    let done = sender.unstarted == 0 && sender.waits == 0 && sender.state == ACTIVE;
+    let starts = set::contains(sender.unstarted, i) && sender.state == ACTIVE && i != j;
+    let guard = match step.kind {
+        REPORT => {
+            next.stations[0].state = FINISHED;
+            done
+        }
+        WAKE => {
+            next.stations[to_sender].unstarted = set::without(sender.unstarted, i);
+            next.stations[to_receiver].unstarted = set::without(receiver.unstarted, j);
+            next.stations[to_receiver].parent = j;
+            next.stations[to_receiver].waits = set::size(receiver.unstarted).saturating_sub(1);
+            next.stations[to_receiver].state = ACTIVE;
+            receiver.state == ASLEEP && starts
+        }
+        PASS => {
+            next.stations[to_sender].unstarted = set::without(sender.unstarted, i);
+            next.stations[to_receiver].waits = receiver.waits.saturating_sub(1);
+            receiver.state == ACTIVE && starts
+        }
+        ANSWER => {
+            next.stations[to_receiver].sum = receiver.sum + sender.sum;
+            next.stations[to_receiver].waits = receiver.waits.saturating_sub(1);
+            next.stations[to_sender].state = FINISHED;
+            done && receiver.state == ACTIVE && sender.parent == i && j != 0 && j != i
+        }
+        _ => false,
+    };
+    guard.then_some(next)
+}

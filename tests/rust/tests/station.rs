@@ -1,0 +1,14 @@
+//! The library's station events against the model.
+
+use conformance::compare::station;
+use conformance::ffi::Library;
+
+#[test]
+fn fields_at_extremes() {
+    station::at_extremes(&Library);
+}
+
+#[test]
+fn lists_of_events() {
+    station::lists(&Library, 50_000);
+}
