@@ -1,12 +1,13 @@
 /* The lot tally for C: the functions of libcapi.a, which `rt staticlib capi` writes (x86-64 Linux, System V calling convention). Link it
-   after the sources, -lcapi. It keeps nothing, writes nothing but what a call is lent without const, and of
-   other code needs only memcpy, memmove, memset and memcmp.
+   after the sources, -lcapi. It keeps nothing, writes nothing but what a call is lent without const, and of other code needs only memcpy,
+   memmove, memset and memcmp.
 
-   Every call is total: any bytes, numbers, words or records may be handed over. Its answer has document 01's number in the low byte, 0
-   where nothing is refused, and above it the value or values that come with that number:
+   Every call is total: any bytes, numbers or records may be handed over. Its answer has document 01's number in the low byte, 0 where
+   nothing is refused, and above it the value or values that come with that number:
        answer = number + 256 * value
-   A refusal leaves all that was lent as it was, but for a run that stops with 11: it leaves the net reached. Pointers are never null, and point to that many elements, or to one record. What a call
-   writes overlaps nothing else that it is lent. */
+   A refusal leaves all that was lent as it was, but for a run that stops with 11: it leaves the net reached. Pointers are never null, and
+   point to that many elements, or to one record. What a call writes overlaps nothing else that it is lent. What stands between the fields
+   of a record says nothing, and need not come back. */
 #ifndef TALLY_H
 #define TALLY_H
 #include <stddef.h>
@@ -24,7 +25,10 @@ struct tally_aggregate {
     uint64_t sum;
 };
 
-/* A station: its sum, the neighbours still to be started (bit j is station j), parent, waits, and state: 0 asleep, 1 active, 2 finished. */
+/* The states of a station. */
+enum { TALLY_ASLEEP, TALLY_ACTIVE, TALLY_FINISHED };
+
+/* A station: its sum, the neighbours still to be started (bit j is station j), parent, waits and state. */
 struct tally_station {
     struct tally_aggregate held;
     uint64_t unstarted;
@@ -111,7 +115,10 @@ _Static_assert(offsetof(struct tally_rendezvous, stations) == 8, "stations");
 _Static_assert(sizeof(struct tally_run) == 16, "tally_run");
 _Static_assert(offsetof(struct tally_run, steps) == 8, "steps");
 
-/* The step that an accepted step or draw made. Kinds: 1 wake, 2 pass, 3 answer, 4 report. */
+/* The kinds of step. A report is from 0 to 0. */
+enum { TALLY_WAKE = 1, TALLY_PASS, TALLY_ANSWER, TALLY_REPORT };
+
+/* The step that an accepted step or draw made, in either kind of net. */
 #define TALLY_KIND(answer) ((uint8_t)((answer) >> 8))
 #define TALLY_SENDER(answer) ((uint8_t)((answer) >> 16))
 #define TALLY_RECEIVER(answer) ((uint8_t)((answer) >> 24))
@@ -128,5 +135,40 @@ uint64_t tally_rendezvous_draw(struct tally_rendezvous *net, uint16_t d);
 /* The steps that the draws pick, until they are used up or the net is at rest. A run that starts outside the form or leaves it stops with
    11, and has left in *net the net that it reached. */
 struct tally_run tally_rendezvous_run(struct tally_rendezvous *net, const uint16_t *draws, size_t count);
+
+/* ---- stations with mail -------------------------------------------------------------------------------------------------------------
+
+   What a mailbox holds. */
+enum { TALLY_BOX_EMPTY, TALLY_BOX_START, TALLY_BOX_ANSWER };
+
+/* A mailbox: its content, and what an answer brings, which is zero beside the other contents. */
+struct tally_letter {
+    uint8_t content;
+    struct tally_aggregate held;
+};
+
+/* A net: boxes[s][r] is the mailbox from s to r. The sets of its stations hold the neighbours, and stay. */
+struct tally_mailbox_net {
+    struct tally_config config;
+    struct tally_station stations[TALLY_STATIONS];
+    struct tally_letter boxes[TALLY_STATIONS][TALLY_STATIONS];
+};
+
+_Static_assert(sizeof(struct tally_letter) == 16, "tally_letter");
+_Static_assert(offsetof(struct tally_letter, held) == 8, "held");
+_Static_assert(sizeof(struct tally_mailbox_net) == 67080, "tally_mailbox_net");
+_Static_assert(offsetof(struct tally_mailbox_net, stations) == 8, "stations");
+_Static_assert(offsetof(struct tally_mailbox_net, boxes) == 1544, "boxes");
+
+/* The kinds of step with mail. A report is from 0 to 0. */
+enum { TALLY_DELIVERY = 1, TALLY_MAIL_REPORT };
+
+/* The calls of stations that meet, for stations with mail: the same numbers, with the same values. A letter that no mailbox has (a content
+   above 2, or a sum where there is no answer) is out of form wherever it stands: 11, and a run makes no step then. Each of these calls
+   has the net on its stack several times: leave it 2 MB. */
+uint64_t tally_mailbox_fresh(struct tally_mailbox_net *net, struct tally_map map);
+uint64_t tally_mailbox_step(struct tally_mailbox_net *net, uint8_t kind, uint8_t sender, uint8_t receiver);
+uint64_t tally_mailbox_draw(struct tally_mailbox_net *net, uint16_t d);
+struct tally_run tally_mailbox_run(struct tally_mailbox_net *net, const uint16_t *draws, size_t count);
 
 #endif

@@ -46,7 +46,7 @@ int main(void)
     /* At the end of a lot: the count, a bit for each neighbour, as many waits as neighbours, asleep. */
     struct tally_process station = {
         .own = 1,
-        .station = {.held = {.sum = 7}, .unstarted = 1u << 0 | 1u << 2, .parent = 0, .waits = 2, .state = 0},
+        .station = {.held = {.sum = 7}, .unstarted = 1u << 0 | 1u << 2, .parent = 0, .waits = 2, .state = TALLY_ASLEEP},
     };
     const struct frame inbox[] = {
         {.kind = START, .from = 0},

@@ -23,9 +23,9 @@ static void print_step(const struct tally_rendezvous *net, uint64_t answer)
     uint8_t kind = TALLY_KIND(answer), sender = TALLY_SENDER(answer), receiver = TALLY_RECEIVER(answer);
 
     printf("%s %u", kinds[kind], sender);
-    if (kind != 4)
+    if (kind != TALLY_REPORT)
         printf(" %u", receiver);
-    if (kind >= 3)
+    if (kind == TALLY_ANSWER || kind == TALLY_REPORT)
         printf(" %" PRIu64, net->stations[sender].held.sum);
     printf("\n");
 }

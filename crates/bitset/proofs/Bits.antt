@@ -6,6 +6,7 @@ use Prim.Native.Nat.{ℕ, zero, suc, _+_, _-_, _*_, _/_, _%_, _^_, _<_, _≤_}
 use native.Mathlib.Nat.{add-zero, add-suc, pow-suc, le-div-iff-mul-le}
 use native.Mathlib.Numerals.{add-one, one-add}
 use native.Mathlib.Omega.{arith}
+use lib.Count.{onesIn, ones, ones-step}
 use lib.Pow.{pow-pos, shr-shr, field, mod-mod-pow}
 use borrow.Author.Tests.{eqb-true, eqb-false}
 use Rattle.finite.proofs.Cases.{by-bool}
@@ -96,3 +97,13 @@ count-mod n s =
 -- one byte more
 pub count-byte : (n s : ℕ) → count (n + 8) s ≡ count n s + count 8 (s / 2 ^ n % 256)
 count-byte n s = omega (arith, count-add n 8 s, count-mod 8 (s / 2 ^ n))
+
+-- the members of a set below 2^n, counted from the lowest on, as the processor's count of its bits is defined
+pub ones-count : (n s : ℕ) → s < 2 ^ n → ones s ≡ count n s
+unfolding count ones onesIn
+ones-count zero s h = ap ones (let z : s ≡ 0 = omega arith in z)
+ones-count (suc n) s h =
+    let rest : ones (s / 2) ≡ count n (s / 2) = ones-count n (s / 2) (omega (arith, pow-suc 2 n)) in
+    let first : count (1 + n) s ≡ count 1 s + count n (s / 2) = count-add 1 n s in
+    let all : count (suc n) s ≡ count (1 + n) s = ap (λ (m : ℕ). count m s) (sym (one-add n)) in
+    omega (arith, ones-step s, rest, first, all)

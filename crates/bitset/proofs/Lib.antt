@@ -1,3 +1,4 @@
 pub mod Entries
 pub mod Bits
 pub mod Laws
+pub mod Selected

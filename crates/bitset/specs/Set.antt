@@ -1,6 +1,6 @@
 -- Sets of stations (document 01, "The line map"): "a set of neighbours (64 bits; bit j, worth 2^j, is station j)".
 use Prim.Native.Nat.{ℕ, zero, suc, _+_, _-_, _/_, _%_, _^_}
-use mathlib.Core.Bool.{Bool, cond}
+use mathlib.Core.Bool.{Bool, _&&_, cond}
 use lib.Dec.{eqb, ltb}
 
 -- bit j of s, 0 or 1
@@ -27,3 +27,12 @@ without j s = cond (member j s) (s - 2 ^ j) s
 -- "set members below k" (Causes and numbers, form): every station in the set s is below k
 unfoldable pub within : ℕ → ℕ → Bool
 within k s = ltb s (2 ^ k)
+
+-- what station j is worth in a set of 64 bits, if it passes a test
+unfoldable pub bitIf : Bool → ℕ → ℕ
+bitIf b j = cond (ltb j 64 && b) (2 ^ j) 0
+
+-- the set of the stations below n that pass a test
+unfoldable pub setOf : ℕ → (ℕ → Bool) → ℕ
+setOf zero test = 0
+setOf (suc n) test = setOf n test + cond (test n) (2 ^ n) 0

@@ -17,6 +17,13 @@ pub fn size(set: u64) -> u8
     sum
 }
 
+// The size of a set, by the processor's own count: a search over many sets, most of them empty, would lay out the table for each.
+pub fn count(set: u64) -> u32
+    ensures { λ r. ⌜ r ≡ Set.size set ⌝ }
+{
+    if set == 0 { 0 } else { u64::count_ones(set) }
+}
+
 // Whether station j is in the set.
 pub fn contains(set: u64, j: u8) -> bool
     ensures { λ r. ⌜ r ≡ Set.member j set ⌝ }
@@ -46,4 +53,14 @@ pub fn is_within(set: u64, k: u8) -> bool
         return true;
     }
     (set >> k) == 0
+}
+
+// What station j is worth in a set, if it passes a test.
+pub fn bit_if(b: bool, j: u8) -> u64
+    ensures { λ r. ⌜ r ≡ Set.bitIf b j ⌝ }
+{
+    if 64 <= j {
+        return 0;
+    }
+    if b { 1u64 << j } else { 0 }
 }

@@ -1,6 +1,6 @@
--- Laws of what a call comes to: a refusal leaves what was lent, an answer's numbers do not look at the net, and a net is opened or left.
--- Assumes nothing.
-use mathlib.Core.Path.{_≡_, refl, sym, ap, _∙_}
+-- Laws of what a call comes to: a refusal leaves what was lent, an acceptance what was found, and an answer's numbers do not look at the
+-- net. Assumes nothing.
+use mathlib.Core.Path.{_≡_, sym, ap, _∙_}
 use mathlib.Core.Bool.{Bool, false}
 use mathlib.Core.List.{List}
 use Prim.Native.Nat.{ℕ}
@@ -11,9 +11,16 @@ use Rattle.schedule.specs.Outcome.{outcomeOf}
 use Rattle.capi.specs.Answers.{packed, called, replacing}
 use Rattle.capi.specs.Steps.{answerNumbers, stepCall}
 
-pub refused-leaves : {Lent : Type 0} (numbers : List ℕ) (before after : Lent) → isAccepted numbers ≡ false
-    → called (packed numbers) before ≡ replacing numbers before after
-refused-leaves numbers before after refused = ap (λ (b : Bool). called (packed numbers) (unless b before after)) (sym refused)
+-- a call with these numbers, on what it was lent and what it found
+module _ {Lent : Type 0} (numbers : List ℕ) (before after : Lent) where
+  pub refused-leaves : (said : List ℕ) (n : ℕ) → said ≡ numbers → isAccepted said ≡ false → n ≡ packed said → called n before ≡ replacing numbers before after
+  refused-leaves said n is refused number =
+      ap (λ (x : ℕ). called x before) number
+      ∙ ap (λ (b : Bool). called (packed said) (unless b before after)) (sym refused)
+      ∙ ap (λ (l : List ℕ). replacing l before after) is
+
+  pub accepted-replaces : (found : Lent) → accepted ≡ numbers → found ≡ after → called 0 found ≡ replacing numbers before after
+  accepted-replaces found is same = ap (λ (x : Lent). called 0 x) same ∙ ap (λ (l : List ℕ). replacing l before after) is
 
 pub answer-call : {Net : Type 0} (a : Answer) (n : ℕ) (net : Net) → n ≡ packed (answerNumbers a) → called n net ≡ stepCall (outcomeOf a net)
 answer-call (Made s) n net number = ap (λ (x : ℕ). called x net) number

@@ -1,6 +1,6 @@
 -- The exported functions on a lent record, as the law of a lent record asks for them: the record, the answer, and the struct of both that
 -- the function by value returns. Assumes nothing.
-use mathlib.Core.Path.{_≡_, refl, sym, ap, subst, _∙_}
+use mathlib.Core.Path.{_≡_, refl, ap, subst, _∙_}
 use mathlib.Core.List.{List, [], _∷_}
 use Prim.Native.Nat.{ℕ}
 use mir.Syntax.{Ty, w64}
@@ -12,7 +12,7 @@ use denote.Signature.{typesAt}
 use denote.Struct.Declared.{Declared, shape, row}
 use denote.Struct.Struct.{layout}
 use denote.Struct.Laws as LL
-use Rattle.lent.proofs.Data.{Record, the-row, the-val, Answer, number-answer, struct-answer, Event, pair-mir, pair-val, Argument, struct, Of}
+use Rattle.lent.proofs.Data.{Record, the-row, the-val, Answer, number-answer, struct-answer, pair-mir, pair-val, Argument, struct, Of}
 use Rattle.lent.proofs.Arguments.{values}
 use Rattle.lent.proofs.Law.{Lending}
 use Rattle.station.proofs.Lent.{process}
@@ -31,6 +31,12 @@ use Rattle.capi.proofs.rendezvous_net.Answered as OnNet
 use Rattle.capi.proofs.rendezvous_net.Answered.Laws as OnNet′
 use Rattle.capi.proofs.rendezvous_net.RunAnswered as RunOnNet
 use Rattle.capi.proofs.rendezvous_net.RunAnswered.Laws as RunOnNet′
+use Rattle.capi.proofs.mailbox_net.Image as Image
+use Rattle.capi.proofs.mailbox_net.Image.Laws as Image′
+use Rattle.capi.proofs.mailbox_net.Answered as OnImage
+use Rattle.capi.proofs.mailbox_net.Answered.Laws as OnImage′
+use Rattle.capi.proofs.mailbox_net.RunAnswered as RunOnImage
+use Rattle.capi.proofs.mailbox_net.RunAnswered.Laws as RunOnImage′
 
 abbrev number : Answer
 number = number-answer w64
@@ -68,6 +74,9 @@ map = record { type = Map.the-type; laws = Map′.the-laws; plain = Map′.the-p
 abbrev net : Record
 net = record { type = Net.the-type; laws = Net′.the-laws; plain = Net′.the-plain }
 
+abbrev image : Record
+image = record { type = Image.the-type; laws = Image′.the-laws; plain = Image′.the-plain }
+
 -- a map that is handed over
 abbrev pub handed-map : Argument 0
 handed-map = struct map (λ y. tt) (λ y f. refl)
@@ -99,3 +108,15 @@ module _ {m : ℕ} (Ns : List (Argument m)) where
       lending net run RunOnNet.the-type RunOnNet′.the-laws (λ d. d .answer) (λ d. d .net) refl (λ d. refl)
       (λ d vs is. LL.owed RunOnNet.the-type RunOnNet′.the-laws d vs is .0)
       (λ d vs is. LL.owed RunOnNet.the-type RunOnNet′.the-laws d vs is .1 .0) Ns
+
+  abbrev pub on-image : Rule ℕ (image .type .D) → Lending m
+  on-image =
+      lending image number OnImage.the-type OnImage′.the-laws (λ d. d .answer) (λ d. d .image) refl (λ d. refl)
+      (λ d vs is. LL.owed OnImage.the-type OnImage′.the-laws d vs is .0)
+      (λ d vs is. LL.owed OnImage.the-type OnImage′.the-laws d vs is .1 .0) Ns
+
+  abbrev pub run-on-image : Rule (run .row .Denot) (image .type .D) → Lending m
+  run-on-image =
+      lending image run RunOnImage.the-type RunOnImage′.the-laws (λ d. d .answer) (λ d. d .image) refl (λ d. refl)
+      (λ d vs is. LL.owed RunOnImage.the-type RunOnImage′.the-laws d vs is .0)
+      (λ d vs is. LL.owed RunOnImage.the-type RunOnImage′.the-laws d vs is .1 .0) Ns

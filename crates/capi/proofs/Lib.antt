@@ -2,4 +2,4 @@ pub mod Lent
 pub mod Given
 pub mod Calls
 pub mod Maps
-pub mod Openings
+pub mod Images

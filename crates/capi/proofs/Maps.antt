@@ -1,6 +1,5 @@
--- Laws of the calls on maps: a reading leaves the lent map or what it found, and the values of a writing's answer fit 32 bits.
--- Assumes nothing.
-use mathlib.Core.Path.{_≡_, refl, sym, ap, _∙_}
+-- The values of a writing's answer fit 32 bits: a station is at most 64, and a stored map at most 784 bytes long. Assumes nothing.
+use mathlib.Core.Path.{_≡_, refl}
 use mathlib.Core.Bool.{Bool, true, false}
 use mathlib.Core.List.{List}
 use Prim.Native.Nat.{ℕ, _≤_, _<_, zero-le}
@@ -8,42 +7,18 @@ use native.Mathlib.Omega.{arith}
 use lib.Dec.{leb}
 use borrow.Author.Tests.{leb-false}
 use Rattle.aggregate.specs.Aggregate.{rootOf}
-use Rattle.topology.specs.Answer.{accepted, isAccepted, unless}
+use Rattle.topology.specs.Answer.{isAccepted, unless}
 use Rattle.topology.specs.Acceptance.{faultNumbers, isStationCount, lowest, overAll, verdictOf}
 use Rattle.topology.specs.declared.Fault.{Fault}
 use Rattle.topology.specs.declared.Fault.the-variants.{Stations, Beyond, Itself, OneWay, Apart}
 use Rattle.linemap.specs.declared.Map.{Map}
-use Rattle.linemap.specs.declared.MapRead.{MapRead}
-use Rattle.linemap.specs.declared.ReadAnswer.the-variants.{Accepted, Refused}
-use Rattle.linemap.specs.declared.ReadFault.{ReadFault}
-use Rattle.linemap.specs.Reading.{Outcome, readNumbers, readFaultNumbers, outcomeOf, reading}
 use Rattle.linemap.specs.Writing.{writing}
 use Rattle.linemap.specs.Maps.{configOf, acceptance}
 use Rattle.linemap.specs.Stored.{storedLength}
 use Rattle.linemap.proofs.Accepted.{map-web}
-use Rattle.linemap.proofs.Answers.{read-fault-refuses}
 use Rattle.linemap.proofs.Rules.{few-stations}
-use Rattle.capi.specs.Answers.{packed, called, replacing}
-use Rattle.capi.specs.Map.{readCall, valueOf}
-use Rattle.capi.proofs.Calls.{refused-leaves}
+use Rattle.capi.specs.Map.{valueOf}
 
-module _ (s : List ℕ) (r : MapRead) (before : Map) (read : outcomeOf r ≡ reading s) where
-  read-call : (numbers : List ℕ) (after : Map) → readNumbers (r .answer) ≡ numbers
-      → called (packed numbers) after ≡ replacing numbers before (r .map) → called (packed numbers) after ≡ readCall s before
-  read-call numbers after is replaced =
-      replaced
-      ∙ ap (λ (l : List ℕ). replacing l before (r .map)) (sym is)
-      ∙ ap (λ (o : Outcome). replacing (o .numbers) before (o .map)) read
-
-  pub refused-read : (why : ReadFault) (n : ℕ) → r .answer ≡ Refused why → n ≡ packed (readFaultNumbers why) → called n before ≡ readCall s before
-  refused-read why n is number =
-      ap (λ (x : ℕ). called x before) number
-      ∙ read-call (readFaultNumbers why) before (ap readNumbers is) (refused-leaves (readFaultNumbers why) before (r .map) (read-fault-refuses why))
-
-  pub accepted-read : r .answer ≡ Accepted → called 0 (r .map) ≡ readCall s before
-  accepted-read is = read-call accepted (r .map) (ap readNumbers is) refl
-
--- ---- the values
 unless-small : (n : ℕ) (b : Bool) (x y : List ℕ) → (b ≡ false → valueOf x ≤ n) → (b ≡ true → valueOf y ≤ n) → valueOf (unless b x y) ≤ n
 unless-small n true x y refused rest = rest refl
 unless-small n false x y refused rest = refused refl

@@ -3,3 +3,4 @@ pub mod Process
 pub mod Map
 pub mod Steps
 pub mod Rendezvous
+pub mod Mailbox

@@ -9,7 +9,7 @@ use native.Mathlib.Omega.{arith}
 use lib.ListN.{length, getD, take, set, length-append, List·getD-append}
 use lib.Seq.{getD-append-add, take-suc-set, take-all}
 use Rattle.finite.specs.Below.{allBelow, tabulate}
-use Rattle.finite.proofs.Cases.{by-eq, and-both}
+use Rattle.finite.proofs.Cases.{clash, by-bool, by-eq, and-both}
 
 module _ (p : ℕ → Bool) where
   pub all-below : (n : ℕ) → ((i : ℕ) → i < n → p i ≡ true) → allBelow n p ≡ true
@@ -23,6 +23,13 @@ module _ (p : ℕ → Bool) where
   all-below-at (suc n) i h l =
       let b = and-both (allBelow n p) (p n) h in
       by-eq i n (λ q. ap p q ∙ b .1) (λ q. all-below-at n i (b .0) (omega arith))
+
+  -- where every other number passes, one decides
+  pub all-below-one : (n i : ℕ) → i < n → ((j : ℕ) → j < n → (j ≡ i → ⊥) → p j ≡ true) → allBelow n p ≡ p i
+  all-below-one n i l others =
+      by-bool (p i)
+      (λ t. all-below n (λ j m. by-eq j i (λ q. ap p q ∙ t) (λ q. others j m q)) ∙ sym t)
+      (λ f. by-bool (allBelow n p) (λ t. clash (all-below-at n i t l) f) (λ g. g ∙ sym f))
 
   -- a loop that accumulates the test
   pub all-below-more : (i : ℕ) → allBelow (i + 1) p ≡ (allBelow i p && p i)

@@ -36,5 +36,9 @@ trailerAnswer (trailer.Found k lot start) = answer.Accepted
 unfoldable pub rowOf : List ℕ → ℕ → RowRead
 rowOf s at = unless (leb (at + rowLength) (length s)) (row.Refused Rows) (row.Row (number s at 4) (number s (at + 4) 8))
 
+abbrev pub rowAnswer : RowRead → ReadAnswer
+rowAnswer (row.Refused fault) = answer.Refused fault
+rowAnswer (row.Row count set) = answer.Accepted
+
 abbrev pub unreadBy : ReadAnswer → MapRead
 unreadBy a = record { answer = a; map = emptyMap }

@@ -5,7 +5,6 @@ use topology::LinksAnswer;
 use topology::Verdict;
 ghost use mathlib.Core.Path.{_≡_};
 ghost use lib.ListN.{length};
-ghost use Prim.Native.Nat.{_≤_};
 ghost use Rattle.topology.specs.Acceptance;
 ghost use Rattle.linemap.specs.Maps;
 ghost use Rattle.linemap.specs.Stored;
@@ -67,12 +66,23 @@ pub enum WriteAnswer {
     Refused(WriteFault),
 }
 
+// The map of no stations, which stands where none was read.
+pub fn empty() -> Map
+    ensures { λ r. ⌜ r ≡ Reading.emptyMap ⌝ }
+{
+    Map {
+        k: 0,
+        lot: 0,
+        counts: [0u32; 64],
+        neighbours: [0u64; 64],
+    }
+}
+
 // The bytes that a map of k stations fills.
-fn stored_length(k: usize) -> usize
-    requires { ⌜ k ≤ 64 ⌝ }
+pub fn stored_length(k: u8) -> usize
     ensures { λ r. ⌜ r ≡ Stored.storedLength k ⌝ }
 {
-    ROW_LENGTH * k + TRAILER_LENGTH
+    ROW_LENGTH * (k as usize) + TRAILER_LENGTH
 }
 
 // What a net on this map is opened with.
@@ -123,7 +133,7 @@ pub fn write(m: Map, buf: &mut [u8]) -> WriteAnswer
     if let Verdict::Refused(fault) = verdict {
         return WriteAnswer::Refused(WriteFault::Unfit(fault));
     }
-    let need = stored_length(m.k as usize);
+    let need = stored_length(m.k);
     if buf.len() < need {
         return WriteAnswer::Refused(WriteFault::Buffer(need));
     }

@@ -14,7 +14,7 @@ ghost use Rattle.linemap.specs.Reading;
 ghost use Rattle.linemap.specs.Stages;
 
 pub(crate) enum TrailerRead {
-    Found { k: usize, lot: u32, start: usize },
+    Found { k: u8, lot: u32, start: usize },
     Refused(ReadFault),
 }
 
@@ -39,8 +39,8 @@ pub(crate) fn read_trailer(s: &[u8]) -> TrailerRead
     if !topology::is_station_count(stations) {
         return TrailerRead::Refused(ReadFault::Unfit(Fault::Stations));
     }
-    let k = stations as usize;
-    if get(s, t + 4, 4) != (crate::ROW_LENGTH * k) as u64 {
+    let k = stations as u8;
+    if get(s, t + 4, 4) != crate::ROW_LENGTH as u64 * stations {
         return TrailerRead::Refused(ReadFault::Distance);
     }
     let need = crate::stored_length(k);
@@ -82,7 +82,9 @@ fn read_row(s: &[u8], at: usize) -> RowRead
 }
 
 // The answer so far.
-fn row_answer(r: RowRead) -> ReadAnswer {
+fn row_answer(r: RowRead) -> ReadAnswer
+    ensures { λ a. ⌜ a ≡ Stages.rowAnswer r ⌝ }
+{
     match r {
         RowRead::Refused(fault) => ReadAnswer::Refused(fault),
         RowRead::Row { count: _, set: _ } => ReadAnswer::Accepted,
@@ -95,12 +97,7 @@ pub(crate) fn unread(answer: ReadAnswer) -> MapRead
 {
     MapRead {
         answer,
-        map: Map {
-            k: 0,
-            lot: 0,
-            counts: [0u32; 64],
-            neighbours: [0u64; 64],
-        },
+        map: crate::empty(),
     }
 }
 
@@ -119,14 +116,15 @@ fn judge(m: Map) -> MapRead
 }
 
 // The map whose k rows start at `start`.
-pub(crate) fn read_rows(s: &[u8], k: usize, lot: u32, start: usize) -> MapRead
+pub(crate) fn read_rows(s: &[u8], k: u8, lot: u32, start: usize) -> MapRead
     requires { ⌜ (k ≤ 64) × (start + rowLength * k ≤ length (now s)) ⌝ }
     ensures { λ r. ⌜ Reading.outcomeOf r ≡ Reading.judged (Reading.mapAt (now (s .entry)) k lot start) ⌝ }
 {
+    let rows = k as usize;
     let mut counts = [0u32; 64];
     let mut neighbours = [0u64; 64];
     let mut i: usize = 0;
-    while i < k {
+    while i < rows {
         let row = read_row(s, start + crate::ROW_LENGTH * i);
         let RowRead::Row { count, set } = row else {
             return unread(row_answer(row));
@@ -136,7 +134,7 @@ pub(crate) fn read_rows(s: &[u8], k: usize, lot: u32, start: usize) -> MapRead
         i += 1;
     }
     judge(Map {
-        k: k as u8,
+        k,
         lot,
         counts,
         neighbours,

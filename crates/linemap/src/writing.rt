@@ -58,7 +58,7 @@ pub(crate) fn put_map(m: Map, buf: &mut [u8])
     let k = m.k as usize;
     put_rows(m, buf);
     put_trailer(buf, k, m.lot);
-    let need = crate::stored_length(k);
+    let need = crate::stored_length(m.k);
     let sum = sum_words(buf, 0, need / 4 - 1);
     put(buf, need - 4, 4, check_word(sum));
 }

@@ -32,33 +32,37 @@ use Rattle.mailbox.specs.Net.{station, boxAt, areBounded, wellFormed}
 use Rattle.mailbox.specs.Delivery.{takesFrom, taken}
 use Rattle.mailbox.specs.Rules.{delivery, mayStep, rules}
 
--- a delivery goes from one station to another
-pub delivery-apart : (net : Net) (s : Step) → s .kind ≡ delivery → rules .guard net s ≡ true → eqb (s .sender) (s .receiver) ≡ false
+-- a delivery goes from one station to another, which takes what is in the mailbox
+pub delivery-may : (net : Net) (s : Step) → s .kind ≡ delivery → rules .guard net s ≡ true
+    → (eqb (s .sender) (s .receiver) ≡ false) × (takesFrom (station net (s .receiver)) (boxAt (net .boxes) (s .sender) (s .receiver)) ≡ true)
 unfolding mayStep
-delivery-apart net s e g =
+delivery-may net s e g =
     let may = rw (eq-eqb (s .kind) delivery e) at g in
-    let apart = not (eqb (s .sender) (s .receiver)) in
-    not-true (eqb (s .sender) (s .receiver)) (and-both apart (takesFrom (station net (s .receiver)) (boxAt (net .boxes) (s .sender) (s .receiver))) may .0)
+    let both = and-both (not (eqb (s .sender) (s .receiver))) (takesFrom (station net (s .receiver)) (boxAt (net .boxes) (s .sender) (s .receiver))) may in
+    (not-true (eqb (s .sender) (s .receiver)) (both .0), both .1)
 
 module _ (net : Net) (f : wellFormed net ≡ true) where
-  parts : (areWellFormed (net .config) (net .stations) ≡ true) × (areBounded (net .config) (net .boxes) ≡ true)
+  pub form-parts : (areWellFormed (net .config) (net .stations) ≡ true) × (areBounded (net .config) (net .boxes) ≡ true)
   unfolding wellFormed
-  parts = and-both (areWellFormed (net .config) (net .stations)) (areBounded (net .config) (net .boxes)) f
+  form-parts = and-both (areWellFormed (net .config) (net .stations)) (areBounded (net .config) (net .boxes)) f
 
   pub k-most : net .config .k ≤ 64
-  k-most = valid-k (net .config) (config-valid (net .config) (net .stations) (parts .0)) .1
+  k-most = valid-k (net .config) (config-valid (net .config) (net .stations) (form-parts .0)) .1
 
   pub formed-at : (i : ℕ) → i < net .config .k → WellFormed (net .config) i (station net i)
-  formed-at i l = facts (net .config) i (station net i) (well-formed-at (net .config) (net .stations) (parts .0) i l)
+  formed-at i l = facts (net .config) i (station net i) (well-formed-at (net .config) (net .stations) (form-parts .0) i l)
+
+  pub bounded-at : (s r : ℕ) → s < net .config .k → r < net .config .k → (eqb s r || mailboxBounded (net .config) (boxAt (net .boxes) s r)) ≡ true
+  unfolding areBounded
+  bounded-at s r hs hr =
+      let k = net .config .k in
+      let row = all-below-at (λ i. allBelow k (λ j. eqb i j || mailboxBounded (net .config) (boxAt (net .boxes) i j))) k s (form-parts .1) hs in
+      all-below-at (λ j. eqb s j || mailboxBounded (net .config) (boxAt (net .boxes) s j)) k r row hr
 
   -- what is posted from one station to another is bounded
   pub posted-bounded : (s r : ℕ) → s < net .config .k → r < net .config .k → eqb s r ≡ false → mailboxBounded (net .config) (boxAt (net .boxes) s r) ≡ true
-  unfolding areBounded
   posted-bounded s r hs hr n =
-      let k = net .config .k in
-      let row = all-below-at (λ i. allBelow k (λ j. eqb i j || mailboxBounded (net .config) (boxAt (net .boxes) i j))) k s (parts .1) hs in
-      let one = all-below-at (λ j. eqb s j || mailboxBounded (net .config) (boxAt (net .boxes) s j)) k r row hr in
-      by-sum (or-cases (eqb s r) (mailboxBounded (net .config) (boxAt (net .boxes) s r)) one) (λ e. clash e n) (λ e. e)
+      by-sum (or-cases (eqb s r) (mailboxBounded (net .config) (boxAt (net .boxes) s r)) (bounded-at s r hs hr)) (λ e. clash e n) (λ e. e)
 
   pub places : (s : Step) → inRange rules net s ≡ true → (s .sender < 64) × (s .receiver < 64)
   places s r = let b = range-bounds rules net s r in omega (arith, b .sender-low, b .receiver-low, k-most)

@@ -25,7 +25,7 @@ use Rattle.mailbox.specs.Net.{station, boxAt, wellFormed}
 use Rattle.mailbox.specs.Delivery.{mustAnswer, delivered, reported}
 use Rattle.mailbox.specs.Rules.{delivery, applied, rules}
 use Rattle.schedule.proofs.Answers.{allowed-parts}
-use Rattle.mailbox.proofs.Laws.{k-most, formed-at, places, taken-parent, delivery-apart}
+use Rattle.mailbox.proofs.Laws.{k-most, formed-at, places, taken-parent, delivery-may}
 use Rattle.mailbox.proofs.Delivered.{Shaped, receiver, delivered-config, delivered-shaped, station-after-delivery, box-after-delivery, reported-shaped, station-after-report}
 
 -- the mailbox from x to y is not one of two different stations below k
@@ -126,7 +126,7 @@ step-keeps net shaped s listed =
     let low = places net f s (both .0) in
     by-eq (s .kind) delivery
     (λ e.
-    let apart = eqb-false (s .sender) (s .receiver) (delivery-apart net s e (both .1)) in
+    let apart = eqb-false (s .sender) (s .receiver) (delivery-may net s e (both .1) .0) in
     rw (eq-eqb (s .kind) delivery e) (
       delivery-keeps net shaped f (s .sender) (s .receiver) (b .sender-low) (b .receiver-low) apart,
       delivered-shaped net shaped (s .sender) (s .receiver) (low .0) (low .1),

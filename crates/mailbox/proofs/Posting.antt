@@ -20,14 +20,14 @@ use Rattle.slot.specs.Slot.{slotOf}
 use Rattle.mailbox.specs.Net.{place, boxAt, putBox, posted, startsPosted}
 
 -- one more station: a start to it, if it is in the set
-module _ (boxes next : List Slot) (from stations n : ℕ) (e : next ≡ startsPosted boxes from stations n) where
-  pub start-posted : member n stations ≡ true → posted next from n Start ≡ startsPosted boxes from stations (n + 1)
+module _ (boxes : List Slot) (from stations n : ℕ) where
+  pub start-posted : member n stations ≡ true → posted (startsPosted boxes from stations n) from n Start ≡ startsPosted boxes from stations (n + 1)
   unfolding startsPosted
-  start-posted h = rw (add-one, h, e)
+  start-posted h = rw (add-one, h)
 
-  pub start-left-out : member n stations ≡ false → next ≡ startsPosted boxes from stations (n + 1)
+  pub start-left-out : member n stations ≡ false → startsPosted boxes from stations n ≡ startsPosted boxes from stations (n + 1)
   unfolding startsPosted
-  start-left-out h = rw (add-one, h, e)
+  start-left-out h = rw (add-one, h)
 
 -- every mailbox after one is written: that one, or as it was
 pub box-after-put : (boxes : List Slot) → length boxes ≡ 4096 → (s r : ℕ) (b : Mailbox) → s < 64 → r < 64 → (x y : ℕ) → y < 64

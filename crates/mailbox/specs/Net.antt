@@ -36,6 +36,10 @@ putBox boxes s r b = set boxes (place s r) (slotOf b)
 abbrev pub posted : List Slot → ℕ → ℕ → Message → List Slot
 posted boxes s r m = putBox boxes s r (Full m)
 
+-- the net with other mailboxes
+abbrev pub withBoxes : Net → List Slot → Net
+withBoxes net boxes = record { config = net .config; stations = net .stations; boxes = boxes }
+
 -- a start posted from s to every station below n in the set
 unfoldable pub startsPosted : List Slot → ℕ → ℕ → ℕ → List Slot
 startsPosted boxes s stations zero = boxes

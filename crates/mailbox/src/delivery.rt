@@ -10,14 +10,14 @@ use slot::Message;
 use slot::Slot;
 use station::Station;
 ghost use mathlib.Core.Path.{_≡_};
-ghost use mathlib.Core.Bool.{true, false, _&&_};
+ghost use mathlib.Core.Bool.{true, false};
 ghost use Prim.Native.Nat.{_<_};
 ghost use lib.Dec.{eqb};
 ghost use Rattle.aggregate.specs.Aggregate.{rootOf, bounded};
 ghost use Rattle.slot.specs.Slot.{mailboxBounded};
 ghost use Rattle.schedule.specs.Rules.{stepInRange, allowed};
-ghost use Rattle.mailbox.specs.Net.{startsPosted, wellFormed};
-ghost use Rattle.mailbox.specs.Delivery.{takesFrom, awakened, taken, boxesAfter, settled, delivered, reported};
+ghost use Rattle.mailbox.specs.Net.{withBoxes, startsPosted, wellFormed};
+ghost use Rattle.mailbox.specs.Delivery.{takesFrom, mayDeliver, mayReport, awakened, taken, mustAnswer, delivered, reported};
 ghost use Rattle.mailbox.specs.Rules.{kinds, report, mayStep, applied, rules};
 
 pub(crate) fn is_in_range(t: Config, step: Step) -> bool
@@ -41,23 +41,30 @@ fn takes(receiver: Station, slot: Slot) -> bool
     }
 }
 
+// Whether what is in the mailbox between two stations may be delivered.
+pub(crate) fn may_deliver(from: u8, to: u8, receiver: Station, slot: Slot) -> bool
+    ensures { λ r. ⌜ r ≡ mayDeliver from to receiver (slot .content) ⌝ }
+{
+    !(from == to) & takes(receiver, slot)
+}
+
+// Whether the root may report.
+pub(crate) fn may_report(root: Station) -> bool
+    ensures { λ r. ⌜ r ≡ mayReport root ⌝ }
+{
+    (root.state == station::ACTIVE) & (root.waits == 0)
+}
+
 // Whether the step's receiver, and what is in the mailbox to it, let the step be made.
 pub(crate) fn may_step(step: Step, receiver: Station, slot: Slot) -> bool
     ensures { λ r. ⌜ r ≡ mayStep step receiver (slot .content) ⌝ }
 {
     let kind = step.kind;
     match kind {
-        DELIVERY => !(step.sender == step.receiver) & takes(receiver, slot),
-        REPORT => (receiver.state == station::ACTIVE) & (receiver.waits == 0),
+        DELIVERY => may_deliver(step.sender, step.receiver, receiver, slot),
+        REPORT => may_report(receiver),
         0 | 3..=255 => false,
     }
-}
-
-// Whether the step is one of those listed.
-pub(crate) fn is_allowed(t: Config, step: Step, receiver: Station, slot: Slot) -> bool
-    ensures { λ r. ⌜ r ≡ (stepInRange kinds report (t .k) (rootOf t) step && mayStep step receiver (slot .content)) ⌝ }
-{
-    is_in_range(t, step) & may_step(step, receiver, slot)
 }
 
 // The receiver, woken by a start from a neighbour: its set stays.
@@ -88,70 +95,57 @@ fn take(t: Config, from: u8, slot: Slot, receiver: Station) -> Station
     }
 }
 
-// The mailboxes after a station posted a start to every station in the set.
-pub(crate) fn post_starts(boxes: [Slot; 4096], from: usize, stations: u64) -> [Slot; 4096]
+// The net after a station posted a start to every station in the set.
+pub(crate) fn post_starts(net: Net, from: usize, stations: u64) -> Net
     requires { ⌜ from < 64 ⌝ }
-    ensures { λ r. ⌜ r ≡ startsPosted boxes from stations 64 ⌝ }
+    ensures { λ r. ⌜ r ≡ withBoxes net (startsPosted (net .boxes) from stations 64) ⌝ }
 {
-    let mut next = boxes;
+    let mut next = net;
     let mut to: u8 = 0;
     while to < 64 {
         if bitset::contains(stations, to) {
             let at = from * 64 + (to as usize);
-            next[at] = slot::start();
+            next.boxes[at] = slot::start();
         }
         to += 1;
     }
     next
 }
 
-// The mailboxes after a delivery: the one delivered is empty, and a receiver that was asleep has posted its starts.
-fn boxes_after(boxes: [Slot; 4096], from: u8, to: usize, receiver: Station) -> [Slot; 4096]
-    requires { ⌜ (from < 64) × (to < 64) ⌝ }
-    ensures { λ r. ⌜ r ≡ boxesAfter boxes from to receiver ⌝ }
+// Whether a receiver, after it took a message, has nothing left to wait for, and is not the root.
+fn must_answer(t: Config, to: usize, s: Station) -> bool
+    ensures { λ r. ⌜ r ≡ mustAnswer t to s ⌝ }
 {
-    let at = (from as usize) * 64 + to;
-    let mut next = boxes;
-    next[at] = slot::empty();
-    if receiver.state == station::ASLEEP {
-        let others = bitset::without(receiver.unstarted, from);
-        return post_starts(next, to, others);
-    }
-    next
+    let root = aggregate::root(t);
+    !(to == root as usize) & (s.waits == 0)
 }
 
-// The net with a station put in its place; where nothing is left to wait for, it posts its sum to its parent and is finished.
-fn settle(net: Net, to: usize, s: Station) -> Net
-    requires { ⌜ (to < 64) × (s .parent < 64) ⌝ }
-    ensures { λ r. ⌜ r ≡ settled (net .config) (net .stations) (net .boxes) to s ⌝ }
-{
-    let root = aggregate::root(net.config);
-    let mut next = net;
-    if !(to == root as usize) & (s.waits == 0) {
-        let held = s.held;
-        let at = to * 64 + (s.parent as usize);
-        next.boxes[at] = slot::answer(held);
-        next.stations[to] = s.ended();
-        return next;
-    }
-    next.stations[to] = s;
-    next
-}
-
-// A delivery: the receiver takes the message, and posts what follows from it.
+// A delivery: the mailbox is emptied, and the receiver takes the message. One that was asleep posts its starts; one with nothing left to wait
+// for posts its sum to its parent and is finished.
 fn deliver(net: Net, from: u8, to: usize) -> Net
     requires { ⌜ (wellFormed net ≡ true) × ((from < net .config .k) × ((to < net .config .k) × (eqb from to ≡ false))) ⌝ }
     ensures { λ r. ⌜ r ≡ delivered net from to ⌝ }
 {
     let t = net.config;
-    let receiver = net.stations[to];
-    let slot = net.boxes[(from as usize) * 64 + to];
-    let s = take(t, from, slot, receiver);
-    let boxes = net.boxes;
-    let after = boxes_after(boxes, from, to, receiver);
     let mut next = net;
-    next.boxes = after;
-    settle(next, to, s)
+    let receiver = next.stations[to];
+    let at = (from as usize) * 64 + to;
+    let slot = next.boxes[at];
+    let s = take(t, from, slot, receiver);
+    next.boxes[at] = slot::empty();
+    if receiver.state == station::ASLEEP {
+        let others = bitset::without(receiver.unstarted, from);
+        next = post_starts(next, to, others);
+    }
+    if must_answer(t, to, s) {
+        let held = s.held;
+        let home = to * 64 + (s.parent as usize);
+        next.boxes[home] = slot::answer(held);
+        next.stations[to] = s.ended();
+        return next;
+    }
+    next.stations[to] = s;
+    next
 }
 
 // A report: the root is finished.

@@ -1,91 +1,38 @@
-// The list of allowed steps, searched where it is needed and never stored.
-use crate::KINDS;
+// The rows of the allowed steps: for each sender and kind, the receivers, as a set.
 use crate::Net;
-use crate::delivery::is_allowed;
-use schedule::Entry;
-use schedule::Step;
+use crate::delivery::may_deliver;
+use crate::delivery::may_report;
+use bitset::bit_if;
 ghost use mathlib.Core.Path.{_≡_};
 ghost use Prim.Native.Nat.{_≤_};
-ghost use lib.ListN.{length};
-ghost use Rattle.schedule.specs.Rules.{allowed};
-ghost use Rattle.schedule.specs.Listing.{listed, select};
-ghost use Rattle.schedule.specs.Scan.{stepsOfKind, entry};
+ghost use Rattle.schedule.specs.Rows.{AreRows};
 ghost use Rattle.mailbox.specs.Rules.{rules};
 
-// More than all steps of 64 stations.
-const PAST_ALL: u16 = 65535;
-
-// Entry `index`, counted from 0, of the allowed steps of one kind. The scan over senders and receivers is left once it is met.
-fn find_of_kind(net: Net, kind: u8, index: u16) -> Entry
+// The rows of the steps that are allowed in the net: the first two of a sender's four are its deliveries and its report.
+pub(crate) fn rows(net: Net) -> [u64; 256]
     requires { ⌜ net .config .k ≤ 64 ⌝ }
-    ensures { λ r. ⌜ r ≡ entry (select (allowed rules net) (stepsOfKind (net .config .k) kind 0)) index ⌝ }
+    ensures { λ r. ⌜ AreRows rules net r ⌝ }
 {
     let t = net.config;
     let k = t.k;
-    let mut left = index;
+    let root = aggregate::root(t);
+    let mut rows = [0u64; 256];
     let mut sender: u8 = 0;
-    let mut receiver: u8 = 0;
-    'scan: while sender < k {
-        receiver = 0;
+    while sender < k {
+        let mut receivers: u64 = 0;
+        let mut receiver: u8 = 0;
         while receiver < k {
             let r = net.stations[receiver as usize];
             let slot = net.boxes[(sender as usize) * 64 + (receiver as usize)];
-            let step = Step {
-                kind: kind,
-                sender: sender,
-                receiver: receiver,
-            };
-            if is_allowed(t, step, r, slot) {
-                if left == 0 {
-                    break 'scan;
-                }
-                left -= 1;
-            }
+            receivers += bit_if(may_deliver(sender, receiver, r, slot), receiver);
             receiver += 1;
         }
+        let s = net.stations[sender as usize];
+        let reports = (sender == root) & may_report(s);
+        let at = 4 * (sender as usize);
+        rows[at] = receivers;
+        rows[at + 1] = bit_if(reports, sender);
         sender += 1;
     }
-    if sender < k {
-        return Entry::At(Step {
-            kind: kind,
-            sender: sender,
-            receiver: receiver,
-        });
-    }
-    Entry::Beyond(left)
-}
-
-// Entry `index`, counted from 0, of the allowed steps.
-pub(crate) fn find(net: Net, index: u16) -> Entry
-    requires { ⌜ net .config .k ≤ 64 ⌝ }
-    ensures { λ r. ⌜ r ≡ entry (listed rules net) index ⌝ }
-{
-    let mut left = index;
-    let mut kind: u8 = 1;
-    while kind <= KINDS {
-        let found = find_of_kind(net, kind, left);
-        match found {
-            Entry::At(step) => {
-                return Entry::At(step);
-            }
-            Entry::Beyond(n) => {
-                left = n;
-            }
-        }
-        kind += 1;
-    }
-    Entry::Beyond(left)
-}
-
-// How many steps are allowed: what a search for an entry past them all has met.
-pub(crate) fn count_allowed(net: Net) -> u16
-    requires { ⌜ net .config .k ≤ 64 ⌝ }
-    ensures { λ r. ⌜ r ≡ length (listed rules net) ⌝ }
-{
-    let found = find(net, PAST_ALL);
-    match found {
-        // No list is so long.
-        Entry::At(_) => 0,
-        Entry::Beyond(n) => PAST_ALL - n,
-    }
+    rows
 }

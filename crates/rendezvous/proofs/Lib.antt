@@ -1,5 +1,8 @@
 pub mod Guards
+pub mod RowSets
+pub mod Filling
 pub mod Laws
 pub mod Places
+pub mod FormAfter
 pub mod Events
 pub mod Examples

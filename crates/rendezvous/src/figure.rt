@@ -10,7 +10,7 @@ use aggregate::Config;
 use schedule::Step;
 use station::Station;
 ghost use mathlib.Core.Path.{_≡_};
-ghost use mathlib.Core.Bool.{true, _&&_};
+ghost use mathlib.Core.Bool.{true};
 ghost use Prim.Native.Nat.{_<_};
 ghost use Rattle.aggregate.specs.Aggregate.{rootOf};
 ghost use Rattle.schedule.specs.Rules.{stepInRange, allowed};
@@ -50,13 +50,6 @@ pub(crate) fn may_step(t: Config, step: Step, s: Station, r: Station) -> bool
         REPORT => s.is_ready(),
         0 | 5..=255 => false,
     }
-}
-
-// Whether the step, from s to r, is one of those listed.
-pub(crate) fn is_allowed(t: Config, step: Step, s: Station, r: Station) -> bool
-    ensures { λ b. ⌜ b ≡ (stepInRange kinds report (t .k) (rootOf t) step && mayStep t (step .kind) (step .sender) (step .receiver) s r) ⌝ }
-{
-    is_in_range(t, step) & may_step(t, step, s, r)
 }
 
 // The net with s at j and r at i.

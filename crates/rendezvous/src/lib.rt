@@ -3,9 +3,9 @@ use aggregate::Config;
 use linemap::Map;
 use refusal::Refusal;
 use schedule::Answer;
-use schedule::Entry;
 use schedule::RunAnswer;
 use schedule::Step;
+use schedule::rows::Drawn;
 use station::Station;
 use topology::Verdict;
 ghost use mathlib.Core.Path.{_≡_};
@@ -153,15 +153,11 @@ pub fn draw(net: Net, d: u16) -> Stepped
     if !is_well_formed(net) {
         return refuse(net, Refusal::OutOfForm);
     }
-    let c = listing::count_allowed(net);
-    if c == 0 {
-        return refuse(net, Refusal::NothingAllowed);
-    }
-    let found = listing::find(net, d % c);
-    match found {
-        Entry::At(step) => make(net, step),
-        // Never, as d % c is below c.
-        Entry::Beyond(_) => refuse(net, Refusal::NothingAllowed),
+    let rows = listing::rows(net);
+    let drawn = schedule::rows::pick(&rows, KINDS, net.config.k, d);
+    match drawn {
+        Drawn::Step(step) => make(net, step),
+        Drawn::Nothing => refuse(net, Refusal::NothingAllowed),
     }
 }
 
@@ -177,7 +173,8 @@ fn stop(net: Net, steps: usize) -> Ran
             net: net,
         };
     }
-    let c = listing::count_allowed(net);
+    let rows = listing::rows(net);
+    let c = schedule::rows::count(&rows, KINDS, net.config.k);
     Ran {
         answer: RunAnswer::Stopped,
         steps: steps,
@@ -186,22 +183,29 @@ fn stop(net: Net, steps: usize) -> Ran
     }
 }
 
-// The steps that the draws pick, one after the other, until they are used up or one is refused. The counter is the place among the draws
-// and the number of steps made.
+// The steps that the draws pick, one after the other, until they are used up, one is refused, or the form is left. The counter is the place
+// among the draws and the number of steps made. The form is tested once: after that, only what the receiver has gathered can break it.
 pub fn run(net: Net, draws: &[u16]) -> Ran
     ensures { λ r. ⌜ runOutcomeOf (r .answer) (r .steps) (r .«at_rest») (r .net) ≡ runOn rules net (now (draws .entry)) ⌝ }
 {
+    if !is_well_formed(net) {
+        return stop(net, 0);
+    }
     let mut here = net;
     let mut made: usize = 0;
     while made < draws.len() {
-        let drawn = draw(here, draws[made]);
-        let answer = drawn.answer;
-        if let Answer::Refused(_) = answer {
+        let rows = listing::rows(here);
+        let drawn = schedule::rows::pick(&rows, KINDS, here.config.k, draws[made]);
+        let Drawn::Step(step) = drawn else {
+            break;
+        };
+        here = figure::apply(here, step);
+        made += 1;
+        let receiver = here.stations[step.receiver as usize];
+        let held = receiver.held;
+        if !aggregate::is_bounded(here.config, held) {
             break;
         }
-        let next = drawn.net;
-        here = next;
-        made += 1;
     }
     stop(here, made)
 }

@@ -1,10 +1,9 @@
 -- What the code of any kind of net knows of its answers: the step that an entry or an answer holds, and that an outcome pins the answer and the
 -- net, so that a contract which gives the outcome leaves nothing open. Assumes nothing.
-use mathlib.Core.Path.{_≡_, refl, sym, _∙_, ap}
+use mathlib.Core.Path.{_≡_, refl, sym, ap}
 use mathlib.Core.Bool.{true}
 use mathlib.Core.List.{[], _∷_}
 use Prim.Native.Nat.{ℕ}
-use lib.ListN.{getD}
 use Rattle.finite.proofs.Cases.{and-both}
 use Rattle.refusal.specs.declared.Refusal.{Refusal}
 use Rattle.refusal.proofs.Laws.{number-pins, number-not-zero}
@@ -13,11 +12,12 @@ use Rattle.schedule.specs.declared.Answer.{Answer}
 use Rattle.schedule.specs.declared.Answer.the-variants.{Made, Refused}
 use Rattle.schedule.specs.declared.RunAnswer.{RunAnswer}
 use Rattle.schedule.specs.declared.RunAnswer.the-variants as run
-use Rattle.schedule.specs.declared.Entry.the-variants.{At}
+use Rattle.schedule.specs.declared.rows.Drawn.the-variants as drawn
 use Rattle.schedule.specs.Rules.{Rules, inRange, allowed}
 use Rattle.schedule.specs.Listing.{candidates, listed}
-use Rattle.schedule.specs.Scan.{entry}
-use Rattle.schedule.proofs.Parts.{select-passes, entry-at, below-of-at}
+use Rattle.schedule.specs.Rows.{picked}
+use Rattle.schedule.proofs.Parts.{select-passes}
+use Rattle.schedule.proofs.Picks.{picked-passes}
 use Rattle.schedule.specs.Outcome.{Outcome, outcomeOf, runNumberOf}
 
 module _ {A : Type 0} {a : Answer} {o : Outcome A} (net : A) (e : outcomeOf a net ≡ o) where
@@ -45,11 +45,8 @@ module _ {Net : Type 0} (R : Rules Net) (net : Net) (s : Step) where
   unfolding allowed
   allowed-parts a = and-both (inRange R net s) (R .guard net s) a
 
-  -- an entry of the list is allowed
-  pub entry-allowed : (n : ℕ) → entry (listed R net) n ≡ At s → allowed R net s ≡ true
+  -- what a draw picks is allowed
+  pub picked-allowed : (d : ℕ) → picked (listed R net) d ≡ drawn.Step s → allowed R net s ≡ true
   unfolding listed
-  entry-allowed n e =
-      let below = below-of-at (listed R net) n s e in
-      let at : At (getD (listed R net) n s) ≡ At s = sym (entry-at (listed R net) n s below) ∙ e in
-      let same : s ≡ getD (listed R net) n s = cc in
-      ap (allowed R net) same ∙ select-passes (allowed R net) (candidates (R .kinds) (R .stations net)) n s below
+  picked-allowed d e =
+      picked-passes (allowed R net) d s (listed R net) (select-passes (allowed R net) (candidates (R .kinds) (R .stations net))) e

@@ -3,5 +3,9 @@ pub mod Made
 pub mod Runs
 pub mod Parts
 pub mod Scan
+pub mod RowLists
+pub mod Picks
 pub mod Outcomes
+pub mod Running
+pub mod Drawing
 pub mod Answers

@@ -1,13 +1,13 @@
 -- The list of allowed steps has every allowed step and no other, so a net is quiescent just where no step is allowed in it: each numeral
 -- below a bound stands in the range, so each step in range among the candidates. Assumes nothing.
 use mathlib.Core.Path.{_≡_, refl, sym, _∙_, ap}
-use mathlib.Core.Bool.{Bool, true, false, not, _&&_, _||_}
+use mathlib.Core.Bool.{Bool, true, false, not, _&&_, _||_, and-false}
 use mathlib.Core.Logic.{_↔_}
 use mathlib.Core.List.{List, [], _∷_, flatMap, List·Memᴰ, List·Memᴰ·head, List·Memᴰ·tail, List·Memᴰ·not-nil, Memᴰ·append-left, Memᴰ·append-right, Memᴰ·map}
 use Prim.Native.Nat.{ℕ, zero, suc, _+_, _-_, _≤_, _<_}
 use native.Mathlib.Omega.{arith}
 use lib.Dec.{leb, ltb, eqb}
-use borrow.Author.Tests.{leb-true, ltb-true}
+use borrow.Author.Tests.{leb-true, ltb-true, eqb-true, lt-ltb, eq-eqb}
 use Rattle.finite.proofs.Cases.{clash, by-bool, by-eq, and-both}
 use Rattle.wave.specs.Claim.{AtRest}
 use Rattle.schedule.specs.declared.Step.{Step}
@@ -68,6 +68,7 @@ module _ {Net : Type 0} (R : Rules Net) where
     pub kind-high : s .kind ≤ R .kinds
     pub sender-low : s .sender < R .stations net
     pub receiver-low : s .receiver < R .stations net
+    pub report-at-root : s .kind ≡ R .reports → (s .sender ≡ R .root net) × (s .receiver ≡ R .root net)
 
   pub range-bounds : (net : Net) (s : Step) → inRange R net s ≡ true → Bounds net s
   unfolding inRange
@@ -86,7 +87,18 @@ module _ {Net : Type 0} (R : Rules Net) where
         kind-high = leb-true (s .kind) (R .kinds) (d .1);
         sender-low = ltb-true (s .sender) (R .stations net) (c .1);
         receiver-low = ltb-true (s .receiver) (R .stations net) (b .1);
+        report-at-root = λ e.
+            let both = and-both (eqb (s .sender) (R .root net)) (eqb (s .receiver) (R .root net)) (rw (eq-eqb (s .kind) (R .reports) e) at (a .1)) in
+            (eqb-true (s .sender) (R .root net) (both .0), eqb-true (s .receiver) (R .root net) (both .1));
       }
+
+  -- an allowed step has its receiver in the net
+  pub allowed-low : (net : Net) (s : Step) → (ltb (s .receiver) (R .stations net) && allowed R net s) ≡ allowed R net s
+  unfolding allowed
+  allowed-low net s =
+      by-bool (allowed R net s)
+      (λ t. rw t (ap (λ (b : Bool). b && true) (lt-ltb (s .receiver) (R .stations net) (range-bounds net s (and-both (inRange R net s) (R .guard net s) t .0) .receiver-low))))
+      (λ f. rw f (and-false (ltb (s .receiver) (R .stations net))))
 
   -- every allowed step is an entry of the list
   pub listed-complete : (net : Net) (s : Step) → Allowed net s → List·Memᴰ s (listed R net)

@@ -18,7 +18,7 @@ use Rattle.schedule.specs.Listing.{listed, isEmpty, quiescent}
 use Rattle.schedule.specs.Outcome.{Outcome, accepted, refused}
 use Rattle.schedule.specs.Draws.{stepOn, drawFrom, drawOn, runMade, runNet, stopped, runOn}
 use Rattle.schedule.specs.Calls.{Call, single, draw, run, callMade, callNet, callsMade, callsNet}
-use Rattle.schedule.proofs.Listing.{listed-complete}
+use Rattle.schedule.proofs.Listing.{listed-complete, listed-allowed}
 
 getD-member : {A : Type 0} (l : List A) (n : ℕ) (d : A) → n < length l → List·Memᴰ (getD l n d) l
 getD-member [] n d h = absurd (let z : ⊥ = omega arith in z)
@@ -82,6 +82,18 @@ module _ {Net : Type 0} (R : Rules Net) where
   unfolding Drawn
   draw-makes net d =
       by-sum (draw-cases net d) (λ w. rw (w .1) (nothing-made net)) (λ w. rw (w .1) (one-made net (w .0) (w .2)))
+
+  drawn-listed : (net : Net) (d : ℕ) (s : Step) → drawOn R net d .made ≡ s ∷ [] → Makes net (s ∷ []) (drawOn R net d .net)
+  drawn-listed net d s e = rw e at (draw-makes net d)
+
+  -- a net in which a draw made a step was well-formed
+  pub drawn-formed : (net : Net) (d : ℕ) (s : Step) → drawOn R net d .made ≡ s ∷ [] → R .wellFormed net ≡ true
+  drawn-formed net d s e = drawn-listed net d s e .runs .0 .0
+
+  -- a step that a draw made is allowed, and leads to the net left
+  pub drawn-step : (net : Net) (d : ℕ) (s : Step) → drawOn R net d .made ≡ s ∷ []
+      → (allowed R net s ≡ true) × (drawOn R net d .net ≡ R .apply net s)
+  drawn-step net d s e = let m = drawn-listed net d s e in (listed-allowed R net s (m .runs .0 .1), m .ends)
 
   pub run-reaches : (net : Net) (ds : List ℕ) → Makes net (runMade R net ds) (runNet R net ds)
   unfolding runMade runNet Drawn

@@ -1,10 +1,10 @@
 -- What the code of a kind of net cites: each outcome of a single step and of a draw from the tests that lead to it, and the loop of a run,
 -- whose counter is both the place among the draws and the number of steps made. Assumes nothing.
-use mathlib.Core.Path.{_≡_, refl, sym, _∙_, ap}
+use mathlib.Core.Path.{_≡_, refl, sym, ap}
 use mathlib.Core.Bool.{true, false}
 use mathlib.Core.List.{List, [], _∷_}
-use Prim.Native.Nat.{ℕ, suc, _+_, _*_, _%_, _≤_, _<_}
-use native.Mathlib.Nat.{mod-lt, le-trans, mul-le-mul-left, mul-le-mul-right, zero-add}
+use Prim.Native.Nat.{ℕ, suc, _+_, _%_, _≤_, _<_}
+use native.Mathlib.Nat.{zero-add}
 use native.Mathlib.Numerals.{add-one}
 use native.Mathlib.Omega.{arith}
 use lib.ListN.{length, getD, drop, drop-of-length-le}
@@ -14,13 +14,12 @@ use borrow.Author.Tests.{ne-eqb}
 use Rattle.refusal.specs.Refusal.{numberOf}
 use Rattle.refusal.specs.declared.Refusal.the-variants.{OutOfForm, OutOfRange, NotAllowed, NothingAllowed}
 use Rattle.schedule.specs.declared.Step.{Step}
-use Rattle.schedule.specs.declared.Entry.the-variants.{At, Beyond}
-use Rattle.schedule.specs.Rules.{Rules, inRange, allowed}
-use Rattle.schedule.specs.Listing.{candidates, isEmpty, listed, quiescent}
+use Rattle.schedule.specs.declared.rows.Drawn.the-variants as drawn
+use Rattle.schedule.specs.Rules.{Rules, inRange}
+use Rattle.schedule.specs.Listing.{isEmpty, listed, quiescent}
 use Rattle.schedule.specs.Outcome.{accepted, refused, RunOutcome}
 use Rattle.schedule.specs.Draws.{stepOn, drawFrom, drawOn, runMade, runNet, stopped, runOn}
-use Rattle.schedule.specs.Scan.{entry}
-use Rattle.schedule.proofs.Parts.{length-select, length-stepsOf, candidates-are, entry-at, length-of-beyond}
+use Rattle.schedule.specs.Rows.{picked}
 
 module _ {Net : Type 0} (R : Rules Net) where
   -- the outcomes of a single step
@@ -42,15 +41,6 @@ module _ {Net : Type 0} (R : Rules Net) where
       unfolding stepOn
       step-taken r g = rw (f, r, g)
 
-  -- at most b * b steps of each kind are listed
-  pub listed-most : (net : Net) (b : ℕ) → R .stations net ≤ b → length (listed R net) ≤ R .kinds * (b * b)
-  unfolding listed
-  listed-most net b h =
-      let k = R .stations net in
-      let candidates-length : length (candidates (R .kinds) k) ≡ R .kinds * (k * k) = ap length (candidates-are (R .kinds) k) ∙ length-stepsOf (R .kinds) k in
-      let few : length (listed R net) ≤ R .kinds * (k * k) = omega (arith, length-select (allowed R net) (candidates (R .kinds) k)) in
-      le-trans few (mul-le-mul-left (R .kinds) (le-trans (mul-le-mul-left k h) (mul-le-mul-right b h)))
-
   -- the outcomes of a draw
   module _ (net : Net) (d : ℕ) where
     pub draw-unformed : R .wellFormed net ≡ false → drawOn R net d ≡ refused OutOfForm net
@@ -58,23 +48,21 @@ module _ {Net : Type 0} (R : Rules Net) where
     draw-unformed f = rw f
 
     module _ (f : R .wellFormed net ≡ true) where
-      pub draw-rest : length (listed R net) ≡ 0 → drawOn R net d ≡ refused NothingAllowed net
-      unfolding drawOn drawFrom
-      draw-rest z = rw f (go (listed R net) z)
+      pub draw-nothing : picked (listed R net) d ≡ drawn.Nothing → drawOn R net d ≡ refused NothingAllowed net
+      unfolding drawOn drawFrom picked
+      draw-nothing e = rw f (nothing (listed R net) e)
         where
-          go : (l : List Step) → length l ≡ 0 → drawFrom R net l d ≡ refused NothingAllowed net
-          go [] z = refl
-          go (s ∷ l) z = absurd (let f : ⊥ = omega arith in f)
+          nothing : (l : List Step) → picked l d ≡ drawn.Nothing → drawFrom R net l d ≡ refused NothingAllowed net
+          nothing [] e = refl
+          nothing (s ∷ l) e = absurd (let z : _≡_ {A = ℕ} 0 1 = cc in omega arith)
 
-      pub draw-made : (s : Step) → (length (listed R net) ≡ 0 → ⊥) → At s ≡ entry (listed R net) (d % length (listed R net))
-          → drawOn R net d ≡ accepted s (R .apply net s)
-      unfolding drawOn drawFrom
-      draw-made s z e = rw f (go (listed R net) z e)
+      pub draw-picked : (s : Step) → picked (listed R net) d ≡ drawn.Step s → drawOn R net d ≡ accepted s (R .apply net s)
+      unfolding drawOn drawFrom picked
+      draw-picked s e = rw f (made (listed R net) e)
         where
-          go : (l : List Step) → (length l ≡ 0 → ⊥) → At s ≡ entry l (d % length l) → drawFrom R net l d ≡ accepted s (R .apply net s)
-          go [] z e = absurd (z refl)
-          go (t ∷ l) z e =
-              let f : At s ≡ At (getD (t ∷ l) (d % length (t ∷ l)) t) = e ∙ entry-at (t ∷ l) (d % length (t ∷ l)) t (mod-lt d (omega arith)) in
+          made : (l : List Step) → picked l d ≡ drawn.Step s → drawFrom R net l d ≡ accepted s (R .apply net s)
+          made [] e = absurd (let z : _≡_ {A = ℕ} 0 1 = cc in omega arith)
+          made (t ∷ l) e =
               let g : getD (t ∷ l) (d % length (t ∷ l)) t ≡ s = cc in
               ap (λ (x : Step). accepted x (R .apply net x)) g
 
@@ -100,6 +88,15 @@ module _ {Net : Type 0} (R : Rules Net) where
     unfolding runFrom runNet runMade
     run-on s h z = rw (drop-cons ds i 0 h, z, add-one i) (ap (stopped R _) (omega arith))
 
+    -- where the form is left nothing more is drawn
+    pub run-unformed : R .wellFormed net ≡ false → runFrom net n (drop i ds) ≡ stopped R net n
+    unfolding runFrom runNet runMade
+    run-unformed f = go (drop i ds)
+      where
+        go : (l : List ℕ) → stopped R (runNet R net l) (n + length (runMade R net l)) ≡ stopped R net n
+        go [] = ap (stopped R net) (omega arith)
+        go (d ∷ l) = rw (draw-unformed net d f) (ap (stopped R net) (omega arith))
+
   -- the two ways to stop
   empty-length : (l : List Step) → isEmpty l ≡ eqb (length l) 0
   unfolding isEmpty
@@ -114,9 +111,3 @@ module _ {Net : Type 0} (R : Rules Net) where
     pub stopped-unformed : R .wellFormed net ≡ false → stopped R net n ≡ record { number = numberOf OutOfForm; steps = n; rest = false; net = net }
     unfolding stopped
     stopped-unformed f = rw f
-
--- d mod c is an entry
-pub draw-in-range : (l : List Step) (d n : ℕ) → (length l ≡ 0 → ⊥) → Beyond n ≡ entry l (d % length l) → ⊥
-draw-in-range l d n z e =
-    let h : d % length l < length l = mod-lt d (omega arith) in
-    omega (arith, length-of-beyond l (d % length l) n (sym e))

@@ -8,11 +8,11 @@ use native.Mathlib.Numerals.{add-one}
 use native.Mathlib.Omega.{arith}
 use lib.ListN.{length, getD, length-append, length-map}
 use Rattle.schedule.specs.declared.Step.{Step}
-use Rattle.schedule.specs.declared.Entry.the-variants.{At, Beyond}
+use Rattle.schedule.specs.declared.rows.Entry.the-variants.{At, Beyond}
 use Rattle.schedule.specs.Listing.{count, range, keepIf, select, step, candidates}
-use Rattle.schedule.specs.Scan.{stepsFrom, stepsOfKind, stepsOf, entry}
+use Rattle.schedule.specs.Rows.{stepsFrom, stepsOfKind, stepsOf, entry}
 
-pub candidates-are : (kinds k : ℕ) → candidates kinds k ≡ stepsOf kinds k 1
+pub candidates-are : (kinds k : ℕ) → candidates kinds k ≡ stepsOf k kinds k 1
 unfolding candidates stepsOf stepsOfKind stepsFrom
 candidates-are kinds k = refl
 
@@ -26,29 +26,30 @@ range-more a b h =
     let e : b - a ≡ suc (b - suc a) = omega arith in
     rw (e, add-one a)
 
-pub stepsFrom-none : (k kind s r : ℕ) → k ≤ r → stepsFrom k kind s r ≡ []
-unfolding stepsFrom
-stepsFrom-none k kind s r h = rw (range-none r k h)
+module _ (w : ℕ) where
+  pub stepsFrom-none : (kind s r : ℕ) → w ≤ r → stepsFrom w kind s r ≡ []
+  unfolding stepsFrom
+  stepsFrom-none kind s r h = rw (range-none r w h)
 
-pub stepsFrom-more : (k kind s r : ℕ) → r < k → stepsFrom k kind s r ≡ step kind s r ∷ stepsFrom k kind s (r + 1)
-unfolding stepsFrom
-stepsFrom-more k kind s r h = rw (range-more r k h)
+  pub stepsFrom-more : (kind s r : ℕ) → r < w → stepsFrom w kind s r ≡ step kind s r ∷ stepsFrom w kind s (r + 1)
+  unfolding stepsFrom
+  stepsFrom-more kind s r h = rw (range-more r w h)
 
-pub stepsOfKind-none : (k kind s : ℕ) → k ≤ s → stepsOfKind k kind s ≡ []
-unfolding stepsOfKind flatMap
-stepsOfKind-none k kind s h = rw (range-none s k h)
+  pub stepsOfKind-none : (k kind s : ℕ) → k ≤ s → stepsOfKind w k kind s ≡ []
+  unfolding stepsOfKind flatMap
+  stepsOfKind-none k kind s h = rw (range-none s k h)
 
-pub stepsOfKind-more : (k kind s : ℕ) → s < k → stepsOfKind k kind s ≡ stepsFrom k kind s 0 ++ stepsOfKind k kind (s + 1)
-unfolding stepsOfKind flatMap
-stepsOfKind-more k kind s h = rw (range-more s k h)
+  pub stepsOfKind-more : (k kind s : ℕ) → s < k → stepsOfKind w k kind s ≡ stepsFrom w kind s 0 ++ stepsOfKind w k kind (s + 1)
+  unfolding stepsOfKind flatMap
+  stepsOfKind-more k kind s h = rw (range-more s k h)
 
-pub stepsOf-none : (kinds k kind : ℕ) → kinds < kind → stepsOf kinds k kind ≡ []
-unfolding stepsOf flatMap
-stepsOf-none kinds k kind h = rw (range-none kind (suc kinds) h)
+  pub stepsOf-none : (kinds k kind : ℕ) → kinds < kind → stepsOf w kinds k kind ≡ []
+  unfolding stepsOf flatMap
+  stepsOf-none kinds k kind h = rw (range-none kind (suc kinds) h)
 
-pub stepsOf-more : (kinds k kind : ℕ) → kind ≤ kinds → stepsOf kinds k kind ≡ stepsOfKind k kind 0 ++ stepsOf kinds k (kind + 1)
-unfolding stepsOf flatMap
-stepsOf-more kinds k kind h = rw (range-more kind (suc kinds) (omega arith))
+  pub stepsOf-more : (kinds k kind : ℕ) → kind ≤ kinds → stepsOf w kinds k kind ≡ stepsOfKind w k kind 0 ++ stepsOf w kinds k (kind + 1)
+  unfolding stepsOf flatMap
+  stepsOf-more kinds k kind h = rw (range-more kind (suc kinds) (omega arith))
 
 -- entries of the steps that pass a test
 module _ (p : Step → Bool) where
@@ -132,15 +133,15 @@ unfolding count flatMap
 length-flat f m h a zero = sym (zero-mul m)
 length-flat f m h a (suc n) = length-append (f a) _ ∙ (let i = length-flat f m h (suc a) n in omega (arith, h a, suc-mul n m))
 
-pub length-stepsOfKind : (k kind : ℕ) → length (stepsOfKind k kind 0) ≡ k * k
+length-stepsOfKind : (w k kind : ℕ) → length (stepsOfKind w k kind 0) ≡ k * w
 unfolding stepsOfKind stepsFrom range
-length-stepsOfKind k kind =
-    let z : k - 0 ≡ k = omega arith in
-    length-flat _ k (λ s. length-map (range 0 k) (step kind s) ∙ length-count 0 (k - 0) ∙ z) 0 (k - 0) ∙ ap (λ (n : ℕ). n * k) z
+length-stepsOfKind w k kind =
+    let z : (n : ℕ) → n - 0 ≡ n = λ n. omega arith in
+    length-flat _ w (λ s. length-map (range 0 w) (step kind s) ∙ length-count 0 (w - 0) ∙ z w) 0 (k - 0) ∙ ap (λ (n : ℕ). n * w) (z k)
 
-pub length-stepsOf : (kinds k : ℕ) → length (stepsOf kinds k 1) ≡ kinds * (k * k)
+pub length-stepsOf : (w kinds k : ℕ) → length (stepsOf w kinds k 1) ≡ kinds * (k * w)
 unfolding stepsOf range
-length-stepsOf kinds k = length-flat _ (k * k) (λ kind. length-stepsOfKind k kind) 1 (suc kinds - 1) ∙ ap (λ (n : ℕ). n * (k * k)) (omega arith)
+length-stepsOf w kinds k = length-flat _ (k * w) (λ kind. length-stepsOfKind w k kind) 1 (suc kinds - 1) ∙ ap (λ (n : ℕ). n * (k * w)) (omega arith)
 
 -- the number of an entry and the length of the list
 pub length-of-beyond : (l : List Step) (n m : ℕ) → entry l n ≡ Beyond m → length l + m ≡ n

@@ -4,56 +4,73 @@ use mathlib.Core.Bool.{Bool, true, false}
 use mathlib.Core.Path.{_≡_, sym, _∙_, ap}
 use mathlib.Core.List.{List, _++_}
 use Prim.Native.Nat.{ℕ, _+_, _-_, _≤_, _<_}
+use native.Mathlib.Omega.{arith}
+use lib.ListN.{length}
 use Rattle.schedule.specs.declared.Step.{Step}
-use Rattle.schedule.specs.declared.Entry.{Entry}
-use Rattle.schedule.specs.declared.Entry.the-variants.{At, Beyond}
+use Rattle.schedule.specs.declared.rows.Entry.{Entry}
+use Rattle.schedule.specs.declared.rows.Entry.the-variants.{At, Beyond}
 use Rattle.schedule.specs.Listing.{select, step}
-use Rattle.schedule.specs.Scan.{stepsFrom, stepsOfKind, stepsOf, entry}
-use Rattle.schedule.proofs.Parts.{stepsFrom-none, stepsFrom-more, stepsOfKind-none, stepsOfKind-more, stepsOf-none, stepsOf-more, select-append, entry-met, entry-passed, entry-skipped, entry-first, entry-second}
+use Rattle.schedule.specs.Rows.{stepsFrom, stepsOfKind, stepsOf, entry}
+use Rattle.schedule.proofs.Parts.{stepsFrom-none, stepsFrom-more, stepsOfKind-none, stepsOfKind-more, stepsOf-none, stepsOf-more, select-append, entry-met, entry-passed, entry-skipped, entry-first, entry-second, entry-beyond}
 
 -- before sender s
-pub record AtSender (p : Step → Bool) (e : Entry) (k kind s left : ℕ) : Type 0 where
-  pub same : e ≡ entry (select p (stepsOfKind k kind s)) left
+pub record AtSender (p : Step → Bool) (e : Entry) (w k kind s left : ℕ) : Type 0 where
+  pub same : e ≡ entry (select p (stepsOfKind w k kind s)) left
 
 -- at sender s, before receiver r
-pub record AtReceiver (p : Step → Bool) (e : Entry) (k kind s r left : ℕ) : Type 0 where
-  pub same : e ≡ entry (select p (stepsFrom k kind s r ++ stepsOfKind k kind (s + 1))) left
+pub record AtReceiver (p : Step → Bool) (e : Entry) (w k kind s r left : ℕ) : Type 0 where
+  pub same : e ≡ entry (select p (stepsFrom w kind s r ++ stepsOfKind w k kind (s + 1))) left
 
 -- before a kind
-pub record AtKind (p : Step → Bool) (e : Entry) (kinds k kind left : ℕ) : Type 0 where
-  pub same : e ≡ entry (select p (stepsOf kinds k kind)) left
+pub record AtKind (p : Step → Bool) (e : Entry) (w kinds k kind left : ℕ) : Type 0 where
+  pub same : e ≡ entry (select p (stepsOf w kinds k kind)) left
 
-module _ {p : Step → Bool} {e : Entry} {k kind s left : ℕ} where
-  pub senders-end : k ≤ s → AtSender p e k kind s left → Beyond left ≡ e
+module _ {p : Step → Bool} {e : Entry} {w k kind s left : ℕ} where
+  pub senders-end : k ≤ s → AtSender p e w k kind s left → Beyond left ≡ e
   unfolding select entry
-  senders-end h i = sym (i .same ∙ rw (stepsOfKind-none k kind s h))
+  senders-end h i = sym (i .same ∙ rw (stepsOfKind-none w k kind s h))
 
-  pub row-start : s < k → AtSender p e k kind s left → AtReceiver p e k kind s 0 left
-  row-start h i = record { same = rw (stepsOfKind-more k kind s h) at (i .same) }
+  pub row-start : s < k → AtSender p e w k kind s left → AtReceiver p e w k kind s 0 left
+  row-start h i = record { same = rw (stepsOfKind-more w k kind s h) at (i .same) }
 
-module _ {p : Step → Bool} {e : Entry} {k kind s r left : ℕ} where
-  pub row-end : k ≤ r → AtReceiver p e k kind s r left → AtSender p e k kind (s + 1) left
-  row-end h i = record { same = rw (stepsFrom-none k kind s r h) at (i .same) }
+  -- a row that ends before the entry is passed by its length
+  pub row-passed : (n : ℕ) → n ≡ length (select p (stepsFrom w kind s 0)) → n ≤ left
+      → AtReceiver p e w k kind s 0 left → AtReceiver p e w k kind s w (left - n)
+  row-passed n c h i =
+      let row = select p (stepsFrom w kind s 0) in
+      let rest = select p (stepsOfKind w k kind (s + 1)) in
+      let beyond : entry row left ≡ Beyond (left - n) = entry-beyond row left (omega (arith, c, h)) ∙ ap (λ (m : ℕ). Beyond (left - m)) (sym c) in
+      record {
+        same =
+            i .same
+            ∙ ap (λ (l : List Step). entry l left) (select-append p (stepsFrom w kind s 0) (stepsOfKind w k kind (s + 1)))
+            ∙ entry-second row rest left (left - n) beyond
+            ∙ ap (λ (l : List Step). entry (select p (l ++ stepsOfKind w k kind (s + 1))) (left - n)) (sym (stepsFrom-none w kind s w (omega arith)));
+      }
 
-  pub met : r < k → p (step kind s r) ≡ true → left ≡ 0 → AtReceiver p e k kind s r left → At (step kind s r) ≡ e
-  met h t z i = sym ((rw (stepsFrom-more k kind s r h) at (i .same)) ∙ entry-met p _ _ left t z)
+module _ {p : Step → Bool} {e : Entry} {w k kind s r left : ℕ} where
+  pub row-end : w ≤ r → AtReceiver p e w k kind s r left → AtSender p e w k kind (s + 1) left
+  row-end h i = record { same = rw (stepsFrom-none w kind s r h) at (i .same) }
 
-  pub passed : r < k → p (step kind s r) ≡ true → (left ≡ 0 → ⊥) → AtReceiver p e k kind s r left → AtReceiver p e k kind s (r + 1) (left - 1)
-  passed h t z i = record { same = (rw (stepsFrom-more k kind s r h) at (i .same)) ∙ entry-passed p _ _ left t z }
+  pub met : r < w → p (step kind s r) ≡ true → left ≡ 0 → AtReceiver p e w k kind s r left → At (step kind s r) ≡ e
+  met h t z i = sym ((rw (stepsFrom-more w kind s r h) at (i .same)) ∙ entry-met p _ _ left t z)
 
-  pub skipped : r < k → p (step kind s r) ≡ false → AtReceiver p e k kind s r left → AtReceiver p e k kind s (r + 1) left
-  skipped h t i = record { same = (rw (stepsFrom-more k kind s r h) at (i .same)) ∙ entry-skipped p _ _ left t }
+  pub passed : r < w → p (step kind s r) ≡ true → (left ≡ 0 → ⊥) → AtReceiver p e w k kind s r left → AtReceiver p e w k kind s (r + 1) (left - 1)
+  passed h t z i = record { same = (rw (stepsFrom-more w kind s r h) at (i .same)) ∙ entry-passed p _ _ left t z }
 
-module _ {p : Step → Bool} {e : Entry} {kinds k kind left : ℕ} where
-  pub kinds-end : kinds < kind → AtKind p e kinds k kind left → Beyond left ≡ e
+  pub skipped : r < w → p (step kind s r) ≡ false → AtReceiver p e w k kind s r left → AtReceiver p e w k kind s (r + 1) left
+  skipped h t i = record { same = (rw (stepsFrom-more w kind s r h) at (i .same)) ∙ entry-skipped p _ _ left t }
+
+module _ {p : Step → Bool} {e : Entry} {w kinds k kind left : ℕ} where
+  pub kinds-end : kinds < kind → AtKind p e w kinds k kind left → Beyond left ≡ e
   unfolding select entry
-  kinds-end h i = sym (i .same ∙ rw (stepsOf-none kinds k kind h))
+  kinds-end h i = sym (i .same ∙ rw (stepsOf-none w kinds k kind h))
 
-  kind-start : kind ≤ kinds → AtKind p e kinds k kind left → e ≡ entry (select p (stepsOfKind k kind 0) ++ select p (stepsOf kinds k (kind + 1))) left
-  kind-start h i = i .same ∙ ap (λ (l : List Step). entry l left) (ap (select p) (stepsOf-more kinds k kind h) ∙ select-append p _ _)
+  kind-start : kind ≤ kinds → AtKind p e w kinds k kind left → e ≡ entry (select p (stepsOfKind w k kind 0) ++ select p (stepsOf w kinds k (kind + 1))) left
+  kind-start h i = i .same ∙ ap (λ (l : List Step). entry l left) (ap (select p) (stepsOf-more w kinds k kind h) ∙ select-append p _ _)
 
-  pub kind-met : (s : Step) → kind ≤ kinds → At s ≡ entry (select p (stepsOfKind k kind 0)) left → AtKind p e kinds k kind left → At s ≡ e
+  pub kind-met : (s : Step) → kind ≤ kinds → At s ≡ entry (select p (stepsOfKind w k kind 0)) left → AtKind p e w kinds k kind left → At s ≡ e
   kind-met s h t i = sym (kind-start h i ∙ entry-first _ _ left s (sym t))
 
-  pub kind-passed : (n : ℕ) → kind ≤ kinds → Beyond n ≡ entry (select p (stepsOfKind k kind 0)) left → AtKind p e kinds k kind left → AtKind p e kinds k (kind + 1) n
+  pub kind-passed : (n : ℕ) → kind ≤ kinds → Beyond n ≡ entry (select p (stepsOfKind w k kind 0)) left → AtKind p e w kinds k kind left → AtKind p e w kinds k (kind + 1) n
   kind-passed n h t i = record { same = kind-start h i ∙ entry-second _ _ left n (sym t) }

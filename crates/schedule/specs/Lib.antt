@@ -3,4 +3,4 @@ pub mod Listing
 pub mod Outcome
 pub mod Draws
 pub mod Calls
-pub mod Scan
+pub mod Rows

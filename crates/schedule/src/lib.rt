@@ -1,6 +1,8 @@
 // What the calls of every kind of net share: a step, and what a step or a draw answers. Listing, draws, runs and lists of calls are in specs/.
 use refusal::Refusal;
 
+pub mod rows;
+
 // A step of a net: its kind, counted from 1, its sender and its receiver.
 pub struct Step {
     pub kind: u8,
@@ -18,10 +20,4 @@ pub enum Answer {
 pub enum RunAnswer {
     Stopped,
     Refused(Refusal),
-}
-
-// What a search for an entry of a list by its number finds: the entry, or, where the list is too short, how many entries are still to pass.
-pub enum Entry {
-    At(Step),
-    Beyond(u16),
 }

@@ -1,16 +1,18 @@
--- What the form of a net's stations says of k and of each of them, and each fresh station below k: the definitions, place by place.
+-- What the form of a net's stations says of k and of each of them, also after one is replaced, and each fresh station below k: the
+-- definitions, place by place.
 -- Assumes nothing.
-use mathlib.Core.Path.{_≡_, _∙_}
+use mathlib.Core.Path.{_≡_, sym, _∙_, ap}
 use mathlib.Core.Bool.{true, cond}
 use mathlib.Core.List.{List}
 use Prim.Native.Nat.{ℕ, _≤_, _<_}
 use native.Mathlib.Omega.{arith}
-use lib.ListN.{getD}
-use lib.Dec.{eqb}
-use borrow.Author.Tests.{lt-ltb}
+use lib.ListN.{length, getD, set}
+use lib.Seq.{set-out, getD-set-same, getD-set-other}
+use lib.Dec.{eqb, ltb}
+use borrow.Author.Tests.{lt-ltb, ltb-true, ltb-false}
 use Rattle.finite.specs.Below.{allBelow}
-use Rattle.finite.proofs.Cases.{and-both}
-use Rattle.finite.proofs.Below.{all-below-at, getD-tabulate}
+use Rattle.finite.proofs.Cases.{by-bool, and-both}
+use Rattle.finite.proofs.Below.{all-below-at, all-below-one, getD-tabulate}
 use Rattle.bitset.specs.Set.{size}
 use Rattle.aggregate.specs.declared.Config.{Config}
 use Rattle.aggregate.specs.Aggregate.{rootOf, valid, bounded, gathered}
@@ -35,6 +37,31 @@ module _ (t : Config) (stations : List Station) (h : areWellFormed t stations �
 
   pub held-bounded-at : (i : ℕ) → i < t .k → bounded t (stationAt stations i .held) ≡ true
   held-bounded-at i l = facts t i (stationAt stations i) (well-formed-at i l) .held-bounded
+
+  -- A station replaced, where the list has its place and where it has not: the form is the new station's, or, where only what it holds can
+  -- break that, what the place holds.
+  module _ (i : ℕ) (s : Station) (l : i < t .k) where
+    replaced-formed : i < length stations → areWellFormed t (set stations i s) ≡ wellFormed t i s
+    unfolding areWellFormed
+    replaced-formed m =
+        rw config-valid
+        (all-below-one (λ x. wellFormed t x (stationAt (set stations i s) x)) (t .k) i l
+        (λ x h n. ap (wellFormed t x) (getD-set-other stations i x s outside n) ∙ well-formed-at x h)
+        ∙ ap (wellFormed t i) (getD-set-same stations i s outside m))
+
+    pub replaced-kept : wellFormed t i s ≡ true → areWellFormed t (set stations i s) ≡ true
+    replaced-kept f =
+        by-bool (ltb i (length stations))
+        (λ m. replaced-formed (ltb-true i (length stations) m) ∙ f)
+        (λ m. ap (areWellFormed t) (set-out stations i s (ltb-false i (length stations) m)) ∙ h)
+
+    pub replaced-bounded : wellFormed t i s ≡ bounded t (s .held) → areWellFormed t (set stations i s) ≡ bounded t (stationAt (set stations i s) i .held)
+    replaced-bounded f =
+        by-bool (ltb i (length stations))
+        (λ m. let inside = ltb-true i (length stations) m in
+        replaced-formed inside ∙ f ∙ ap (λ (x : Station). bounded t (x .held)) (sym (getD-set-same stations i s outside inside)))
+        (λ m. let same = set-out stations i s (ltb-false i (length stations) m) in
+        ap (areWellFormed t) same ∙ h ∙ sym (ap (λ (x : List Station). bounded t (stationAt x i .held)) same ∙ held-bounded-at i l))
 
 -- the fresh station of a place below k
 pub fresh-at : (t : Config) (counts neighbours : List ℕ) (i : ℕ) → t .k ≤ 64 → i < t .k

@@ -1,7 +1,7 @@
 -- Searches below a bound: whether some station passes a test, and the first that does. Each law goes by recursion on the bound.
 -- Assumes nothing.
 use mathlib.Core.Path.{_≡_, refl, sym, ap, _∙_}
-use mathlib.Core.Bool.{Bool, true, false, _||_}
+use mathlib.Core.Bool.{Bool, true, false}
 use Prim.Native.Nat.{ℕ, zero, suc, _+_, _-_, _<_, _≤_}
 use native.Mathlib.Nat.{not-suc-le-zero}
 use native.Mathlib.Numerals.{add-one}
@@ -35,10 +35,6 @@ pub any-ext : (k : ℕ) (p q : ℕ → Bool) → ((i : ℕ) → i < k → p i �
 unfolding anyBelow
 any-ext zero p q h = refl
 any-ext (suc k) p q h = rw (any-ext k p q (λ i l. h i (omega arith)), h k (omega arith))
-
-pub any-more : (p : ℕ → Bool) (n : ℕ) → anyBelow (n + 1) p ≡ (anyBelow n p || p n)
-unfolding anyBelow
-any-more p n = rw add-one
 
 -- the first from i on: it is i, or the first from i + 1 on
 pub first-here : (p : ℕ → Bool) (i k : ℕ) → i < k → p i ≡ true → firstFrom p i (k - i) ≡ i

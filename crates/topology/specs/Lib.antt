@@ -1,3 +1,4 @@
 pub mod Answer
 pub mod Acceptance
 pub mod Parts
+pub mod Matrix

@@ -1,31 +1,22 @@
 -- What the parts of the code compute. Helper definitions of the code: no public contract cites them.
-use mathlib.Core.Bool.{Bool, not, _&&_, _||_, cond}
+use mathlib.Core.Bool.{Bool, not, _||_}
 use mathlib.Core.List.{List}
-use Prim.Native.Nat.{ℕ, zero, suc, _+_, _^_}
+use Prim.Native.Nat.{ℕ}
 use lib.ListN.{getD}
 use lib.Dec.{eqb}
 use lib.Bits.{bitAnd}
 use Rattle.finite.specs.Sum.{addition, sumTo, indicator}
-use Rattle.bitset.specs.Set.{member}
-use Rattle.topology.specs.Acceptance.{linked, near, namesBeyond, namesItself, namesOneSided}
+use Rattle.bitset.specs.Set.{member, setOf}
+use Rattle.topology.specs.Acceptance.{linked, near, namesBeyond, namesItself}
 use Rattle.topology.specs.declared.Rule.{Rule}
 use Rattle.topology.specs.declared.Rule.the-variants as rule
 
--- station i, with this set, names j, and j, with the other set, does not name i
-abbrev pub oneSided : ℕ → ℕ → ℕ → ℕ → Bool
-oneSided set other i j = member j set && not (member i other)
-
--- the rules, the last by the set of the stations that a chain joins to the root
-abbrev pub breaks : Rule → ℕ → List ℕ → ℕ → Bool
-breaks rule.Beyond k sets i = namesBeyond k sets i
-breaks rule.Itself k sets i = namesItself sets i
-breaks rule.OneWay k sets i = namesOneSided k sets i
-breaks (rule.Apart reached) k sets i = not (member i reached)
-
--- the stations below k that pass the test, as a set
-unfoldable pub setOf : ℕ → (ℕ → Bool) → ℕ
-setOf zero test = 0
-setOf (suc n) test = setOf n test + cond (test n) (2 ^ n) 0
+-- the rules, the third by the sets of those who name each station, the last by the set of the stations that a chain joins to the root
+abbrev pub breaks : Rule → ℕ → List ℕ → List ℕ → ℕ → Bool
+breaks rule.Beyond k sets namers i = namesBeyond k sets i
+breaks rule.Itself k sets namers i = namesItself sets i
+breaks rule.OneWay k sets namers i = not (eqb (bitAnd (getD sets i 0) (getD namers i 0)) (getD sets i 0))
+breaks (rule.Apart reached) k sets namers i = not (member i reached)
 
 -- station i is the root, or its set has a member that is reached
 abbrev pub nearBy : ℕ → ℕ → ℕ → ℕ → Bool

@@ -1,13 +1,17 @@
 // Acceptance of a line map's sets of neighbours, and the number of its links (document 01, "The line map").
+use bitset::bit_if;
 use bitset::contains;
 use bitset::is_within;
 use bitset::size;
 ghost use mathlib.Core.Path.{_≡_};
-ghost use mathlib.Core.Bool.{cond};
-ghost use Prim.Native.Nat.{_<_, _≤_, _^_};
+ghost use mathlib.Core.Bool.{true};
+ghost use Prim.Native.Nat.{_<_, _≤_};
 ghost use Rattle.wave.specs.Graph;
 ghost use Rattle.topology.specs.Acceptance;
+ghost use Rattle.topology.specs.Matrix;
 ghost use Rattle.topology.specs.Parts;
+
+mod matrix;
 
 // Why a map is refused; a case holds the lowest offender.
 pub enum Fault {
@@ -49,51 +53,28 @@ pub fn is_station_count(k: u64) -> bool
     (0 < k) & (k <= MOST_STATIONS)
 }
 
-// Whether i names j, and j does not name i.
-fn is_one_sided(set: u64, other: u64, i: u8, j: u8) -> bool
-    ensures { λ r. ⌜ r ≡ Parts.oneSided set other i j ⌝ }
-{
-    contains(set, j) & !contains(other, i)
-}
-
-// Whether i names a station that does not name it.
-fn names_one_sided(k: u8, sets: &[u64; 64], i: u8) -> bool
+// Whether station i breaks the rule. The namers of a station are those that name it.
+fn is_broken(rule: Rule, k: u8, sets: &[u64; 64], namers: &[u64; 64], i: u8) -> bool
     requires { ⌜ (k ≤ 64) × (i < k) ⌝ }
-    ensures { λ r. ⌜ r ≡ Acceptance.namesOneSided k (now (sets .entry)) i ⌝ }
-{
-    let set = sets[i as usize];
-    let mut found = false;
-    let mut j: u8 = 0;
-    while j < k {
-        let other = sets[j as usize];
-        found = found | is_one_sided(set, other, i, j);
-        j += 1;
-    }
-    found
-}
-
-// Whether station i breaks the rule.
-fn is_broken(rule: Rule, k: u8, sets: &[u64; 64], i: u8) -> bool
-    requires { ⌜ (k ≤ 64) × (i < k) ⌝ }
-    ensures { λ r. ⌜ r ≡ Parts.breaks rule k (now (sets .entry)) i ⌝ }
+    ensures { λ r. ⌜ r ≡ Parts.breaks rule k (now (sets .entry)) (now (namers .entry)) i ⌝ }
 {
     let set = sets[i as usize];
     match rule {
         Rule::Beyond => !is_within(set, k),
         Rule::Itself => contains(set, i),
-        Rule::OneWay => names_one_sided(k, sets, i),
+        Rule::OneWay => set & namers[i as usize] != set,
         Rule::Apart(reached) => !contains(reached, i),
     }
 }
 
 // The lowest station that breaks the rule; k where none does.
-fn find_lowest(rule: Rule, k: u8, sets: &[u64; 64]) -> u8
+fn find_lowest(rule: Rule, k: u8, sets: &[u64; 64], namers: &[u64; 64]) -> u8
     requires { ⌜ k ≤ 64 ⌝ }
-    ensures { λ r. ⌜ r ≡ Acceptance.lowest k (Parts.breaks rule k (now (sets .entry))) ⌝ }
+    ensures { λ r. ⌜ r ≡ Acceptance.lowest k (Parts.breaks rule k (now (sets .entry)) (now (namers .entry))) ⌝ }
 {
     let mut i: u8 = 0;
     while i < k {
-        if is_broken(rule, k, sets, i) {
+        if is_broken(rule, k, sets, namers, i) {
             return i;
         }
         i += 1;
@@ -106,13 +87,6 @@ fn is_near(root: u8, set: u64, reached: u64, i: u8) -> bool
     ensures { λ r. ⌜ r ≡ Parts.nearBy root set reached i ⌝ }
 {
     (i == root) | !((reached & set) == 0)
-}
-
-fn bit_if(b: bool, i: u8) -> u64
-    requires { ⌜ i < 64 ⌝ }
-    ensures { λ r. ⌜ r ≡ cond b (2 ^ i) 0 ⌝ }
-{
-    if b { 1u64 << i } else { 0 }
 }
 
 // The root, and the stations with a neighbour that is reached.
@@ -130,7 +104,7 @@ fn round(root: u8, k: u8, sets: &[u64; 64], reached: u64) -> u64
     out
 }
 
-// The stations that a chain of links joins to the root.
+// The stations that a chain of links joins to the root; no round finds more after one that finds none.
 fn reach(root: u8, k: u8, sets: &[u64; 64]) -> u64
     requires { ⌜ k ≤ 64 ⌝ }
     ensures { λ r. ⌜ r ≡ Parts.reachedOf root k (now (sets .entry)) ⌝ }
@@ -138,10 +112,39 @@ fn reach(root: u8, k: u8, sets: &[u64; 64]) -> u64
     let mut reached: u64 = 0;
     let mut t: u8 = 0;
     while t < k {
-        reached = round(root, k, sets, reached);
+        let next = round(root, k, sets, reached);
+        if next == reached {
+            return reached;
+        }
+        reached = next;
         t += 1;
     }
     reached
+}
+
+// The rules over all stations: the first that is broken, and by whom.
+fn judge(root: u8, k: u8, sets: &[u64; 64], namers: &[u64; 64]) -> Verdict
+    requires { ⌜ (Acceptance.isStationCount k ≡ true) × Matrix.Transposed (now sets) (now namers) ⌝ }
+    ensures { λ r. ⌜ Acceptance.verdictNumbers r ≡ Acceptance.verdictOf root k (now (sets .entry)) ⌝ }
+{
+    let beyond = find_lowest(Rule::Beyond, k, sets, namers);
+    if beyond < k {
+        return Verdict::Refused(Fault::Beyond(beyond));
+    }
+    let itself = find_lowest(Rule::Itself, k, sets, namers);
+    if itself < k {
+        return Verdict::Refused(Fault::Itself(itself));
+    }
+    let one_way = find_lowest(Rule::OneWay, k, sets, namers);
+    if one_way < k {
+        return Verdict::Refused(Fault::OneWay(one_way));
+    }
+    let reached = reach(root, k, sets);
+    let apart = find_lowest(Rule::Apart(reached), k, sets, namers);
+    if apart < k {
+        return Verdict::Refused(Fault::Apart(apart));
+    }
+    Verdict::Accepted
 }
 
 // The first rule that is broken, and by whom.
@@ -151,24 +154,8 @@ pub fn accept(root: u8, k: u8, sets: &[u64; 64]) -> Verdict
     if !is_station_count(k as u64) {
         return Verdict::Refused(Fault::Stations);
     }
-    let beyond = find_lowest(Rule::Beyond, k, sets);
-    if beyond < k {
-        return Verdict::Refused(Fault::Beyond(beyond));
-    }
-    let itself = find_lowest(Rule::Itself, k, sets);
-    if itself < k {
-        return Verdict::Refused(Fault::Itself(itself));
-    }
-    let one_way = find_lowest(Rule::OneWay, k, sets);
-    if one_way < k {
-        return Verdict::Refused(Fault::OneWay(one_way));
-    }
-    let reached = reach(root, k, sets);
-    let apart = find_lowest(Rule::Apart(reached), k, sets);
-    if apart < k {
-        return Verdict::Refused(Fault::Apart(apart));
-    }
-    Verdict::Accepted
+    let namers = matrix::transpose(sets);
+    judge(root, k, sets, &namers.rows)
 }
 
 // How many stations below i are in the set.

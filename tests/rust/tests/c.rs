@@ -92,6 +92,12 @@ fn stations_that_meet() {
     assert_eq!(run("tests/c/meet.c", &[]), "");
 }
 
+#[cfg(feature = "mail")]
+#[test]
+fn stations_with_mail() {
+    assert_eq!(run("tests/c/mail.c", &[]), "");
+}
+
 /// Station 1 in document 01's second order of the triangle: wake 0 1, wake 1 2, .., answer 2 1 11, answer 1 0 18.
 #[test]
 fn example_controller() {

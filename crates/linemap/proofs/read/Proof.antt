@@ -44,7 +44,7 @@ returns c =
     (c .before .before .before .before .read-trailer .ensures))
 
 stored-length-requires : tie.Need-stored-length-requires
-stored-length-requires c κs = is-found c .few
+stored-length-requires c κs = search needs
 
 sum-words-requires : tie.Need-sum-words-requires
 sum-words-requires c κs = let f = is-found (c .before) in omega (arith, c .stored-length .ensures, f .few, f .ends)

@@ -31,27 +31,23 @@ returns c =
 enum-told : tie.Need-enum-told
 enum-told c = search needs
 
-cast-stored-length : tie.Need-cast-stored-length
-cast-stored-length c = search needs
-
 stored-length-requires : tie.Need-stored-length-requires
-stored-length-requires c κs =
-    map-web (c .before .before .before .before .before .args .m) (is-accepted (c .before)) .few-stations
+stored-length-requires c κs = search needs
 
 returns-2 : tie.Need-returns-2
-returns-2 c = too-short _ _ (is-accepted (c .before .before .before)) _ (c .before .stored-length .ensures) (c .if1 .taken)
+returns-2 c = too-short _ _ (is-accepted (c .before .before)) _ (c .before .stored-length .ensures) (c .if1 .taken)
 
 put-map-requires : tie.Need-put-map-requires
 put-map-requires c κs =
-    let start = c .before .before .before .before .before .before .before .before in
-    (map-web (start .args .m) (is-accepted (c .before .before .before .before)) .few-stations, omega (arith, c .before .before .stored-length .ensures))
+    let start = c .before .before .before .before .before .before .before in
+    (map-web (start .args .m) (is-accepted (c .before .before .before)) .few-stations, omega (arith, c .before .before .stored-length .ensures))
 
 same-length : tie.Need-same-length
 same-length c = search needs
 
 returns-3 : tie.Need-returns-3
 returns-3 c =
-    fills _ _ (is-accepted (c .before .before .before .before .before .before .before)) _ _
+    fills _ _ (is-accepted (c .before .before .before .before .before .before)) _ _
     (c .before .before .before .before .before .stored-length .ensures)
     (c .before .before .before .before .if1 .left)
     (c .before .before .put-map .ensures)
@@ -64,7 +60,6 @@ write-spec =
     enum-known-verdict
     returns
     enum-told
-    cast-stored-length
     stored-length-requires
     returns-2
     put-map-requires

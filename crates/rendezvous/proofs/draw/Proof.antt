@@ -1,35 +1,19 @@
--- `rendezvous::draw` meets its contract: each return is an outcome of `drawOn` by the tests that lead to it, and d mod c is an entry of the list.
--- Assumes nothing.
-use mathlib.Core.Path.{_≡_, sym, _∙_, ap}
+-- `rendezvous::draw` meets its contract: outside the form a draw is refused, and else what is picked from the rows decides. Assumes nothing.
+use mathlib.Core.Path.{_≡_, sym, _∙_}
 use mathlib.Core.Bool.{true}
-use Prim.Native.Nat.{ℕ, _%_}
-use lib.ListN.{length}
 use borrow.Author.Needs.{needs}
 use borrow.Author.Tests.{not-true, not-false}
-use Rattle.schedule.specs.Listing.{listed}
-use Rattle.schedule.specs.Scan.{entry}
-use Rattle.schedule.proofs.Outcomes.{draw-unformed, draw-rest, draw-made, draw-in-range}
+use Rattle.schedule.proofs.Outcomes.{draw-unformed}
+use Rattle.schedule.proofs.Drawing.{drawn-nothing, drawn-allowed, drawn-accepted}
 use Rattle.rendezvous.specs.Net.{wellFormed}
 use Rattle.rendezvous.specs.Rules.{rules}
-use Rattle.schedule.proofs.Answers.{entry-allowed}
 use Rattle.rendezvous.proofs.Laws.{k-most}
 use Rattle.rendezvous.proofs.draw.Statement.{statement}
 use Rattle.rendezvous.proofs.draw.Tie as tie
 
--- past the first test
+-- past the test of the form
 formed : (c : tie.Else1) → wellFormed (c .before .before .args .net) ≡ true
 formed c = sym (c .before .is-well-formed .ensures) ∙ not-false _ (c .if1 .left)
-
--- past the second
-some : (c : tie.Else2) → length (listed rules (c .before .before .before .before .args .net)) ≡ 0 → ⊥
-some c = λ z. c .if2 .left (c .before .count-allowed .ensures ∙ z)
-
--- what is found is the entry that the draw picks
-picked : (c : tie.After-find) → let a = c .before .before .before .before .before .args in
-    c .find .result ≡ entry (listed rules (a .net)) (a .d % length (listed rules (a .net)))
-picked c =
-    let a = c .before .before .before .before .before .args in
-    c .find .ensures ∙ ap (λ (n : ℕ). entry (listed rules (a .net)) (a .d % n)) (c .before .before .count-allowed .ensures)
 
 is-well-formed-requires : tie.Need-is-well-formed-requires
 is-well-formed-requires c κs = search needs
@@ -43,52 +27,49 @@ returns c =
     c .refuse .ensures
     ∙ sym (draw-unformed rules (a .net) (a .d) (sym (c .before .before .is-well-formed .ensures) ∙ not-true _ (c .before .if1 .taken)))
 
-count-allowed-requires : tie.Need-count-allowed-requires
-count-allowed-requires c κs = k-most (c .before .before .args .net) (formed c)
+rows-requires : tie.Need-rows-requires
+rows-requires c κs = k-most (c .before .before .args .net) (formed c)
+
+slice-aggregate-pick : tie.Need-slice-aggregate-pick
+slice-aggregate-pick c = search needs
+
+pick-requires : tie.Need-pick-requires
+pick-requires c κs = search needs
+
+enum-known-drawn : tie.Need-enum-known-drawn
+enum-known-drawn c = search needs
+
+make-requires : tie.Need-make-requires
+make-requires c κs =
+    let pick = c .before .before .before in
+    let rows = pick .before .before in
+    let net = rows .before .before .before .args .net in
+    let f = formed (rows .before) in
+    (f, drawn-allowed rules net _ f (k-most net f) (rows .rows .ensures) (pick .pick .ensures) (c .before .drawn .given .1))
+
+enum-told : tie.Need-enum-told
+enum-told c = search needs
 
 refuse-requires-2 : tie.Need-refuse-requires-2
 refuse-requires-2 c κs = search needs
 
 returns-2 : tie.Need-returns-2
 returns-2 c =
-    let a = c .before .before .before .before .before .args in
-    c .refuse2 .ensures
-    ∙ sym (draw-rest rules (a .net) (a .d) (formed (c .before .before .before)) (sym (c .before .before .count-allowed .ensures) ∙ c .before .if2 .taken))
-
-rem-find : tie.Need-rem-find
-rem-find c = search needs
-
-find-requires : tie.Need-find-requires
-find-requires c κs = k-most (c .before .before .before .before .args .net) (formed (c .before .before))
-
-enum-known-found : tie.Need-enum-known-found
-enum-known-found c = search needs
-
-make-requires : tie.Need-make-requires
-make-requires c κs =
-    let find = c .before .before .before in
-    let a = find .before .before .before .before .before .args in
-    (formed (find .before .before .before), entry-allowed rules (a .net) (c .before .found .given .0 .0) _ (sym (picked find) ∙ c .before .found .given .1))
-
-enum-told : tie.Need-enum-told
-enum-told c = search needs
-
-refuse-requires-3 : tie.Need-refuse-requires-3
-refuse-requires-3 c κs = search needs
+    let pick = c .before .before .before .before in
+    let rows = pick .before .before in
+    let net = rows .before .before .before .args .net in
+    let f = formed (rows .before) in
+    c .make .ensures
+    ∙ sym (drawn-accepted rules net _ f (k-most net f) (rows .rows .ensures) (pick .pick .ensures) (c .before .before .drawn .given .1))
 
 returns-3 : tie.Need-returns-3
 returns-3 c =
-    let find = c .before .before .before .before in
-    let a = find .before .before .before .before .before .args in
-    c .make .ensures
-    ∙ sym (draw-made rules (a .net) (a .d) (formed (find .before .before .before)) (c .before .before .found .given .0 .0) (some (find .before))
-    (sym (c .before .before .found .given .1) ∙ picked find))
-
-returns-4 : tie.Need-returns-4
-returns-4 c =
-    let find = c .before .before .before in
-    let a = find .before .before .before .before .before .args in
-    absurd (draw-in-range (listed rules (a .net)) (a .d) _ (some (find .before)) (sym (c .before .enum-told .given .1) ∙ picked find))
+    let pick = c .before .before .before in
+    let rows = pick .before .before in
+    let net = rows .before .before .before .args .net in
+    let f = formed (rows .before) in
+    c .refuse2 .ensures
+    ∙ sym (drawn-nothing rules net _ f (k-most net f) (rows .rows .ensures) (pick .pick .ensures) (c .before .enum-told .given .1))
 
 pub draw-spec : {M : Type 1} → statement M
 draw-spec =
@@ -97,14 +78,12 @@ draw-spec =
     is-well-formed-requires
     refuse-requires
     returns
-    count-allowed-requires
-    refuse-requires-2
-    returns-2
-    rem-find
-    find-requires
-    enum-known-found
+    rows-requires
+    slice-aggregate-pick
+    pick-requires
+    enum-known-drawn
     make-requires
     enum-told
-    refuse-requires-3
-    returns-3
-    returns-4)
+    refuse-requires-2
+    returns-2
+    returns-3)

@@ -1,5 +1,6 @@
 -- `topology::find_lowest` meets its contract. Invariant: the first offender from i on is the first of all. Assumes nothing.
 use mathlib.Core.Path.{_≡_, sym, ap, _∙_}
+use mathlib.Core.Bool.{Bool, true, false}
 use Prim.Native.Nat.{_≤_, _-_}
 use native.Mathlib.Omega.{arith}
 use borrow.Author.Needs.{needs}
@@ -10,10 +11,16 @@ use Rattle.topology.proofs.find_lowest.Statement.{statement}
 use Rattle.topology.proofs.find_lowest.Tie as tie
 
 abbrev Inv-loop : tie.InvT-loop
-Inv-loop rule k sets i₀ i = (i ≤ k) × (firstFrom (breaks rule k sets) i (k - i) ≡ lowest k (breaks rule k sets))
+Inv-loop rule k sets namers i₀ i =
+    (i ≤ k) × (firstFrom (breaks rule k sets namers) i (k - i) ≡ lowest k (breaks rule k sets namers))
 
 abbrev μ-loop : tie.MeasureT-loop
-μ-loop rule k sets i₀ i = k - i
+μ-loop rule k sets namers i₀ i = k - i
+
+-- the test of station i, by the rule
+tested : (c : tie.After-is-broken Inv-loop μ-loop) (b : Bool) → c .is-broken .result ≡ b
+    → let a = c .before .before .before .args in breaks (a .rule) (a .k) (a .sets .now) (a .namers .now) (c .before .before .loop .i) ≡ b
+tested c b e = rw (c .is-broken .ensures) at e
 
 loop-holds : tie.Need-loop-holds Inv-loop μ-loop
 loop-holds c = let whole : c .args .k - 0 ≡ c .args .k = omega arith in (omega arith, ap (firstFrom _ 0) whole)
@@ -24,7 +31,7 @@ is-broken-requires c κs = search needs
 returns : tie.Need-returns Inv-loop μ-loop
 returns c =
     let at = c .before .before .before in
-    sym (first-here _ _ (at .before .args .k) (c .before .before .loop-test .taken) (sym (c .before .is-broken .ensures) ∙ c .if1 .taken))
+    sym (first-here _ _ (at .before .args .k) (c .before .before .loop-test .taken) (tested (c .before) true (c .if1 .taken)))
     ∙ at .loop .inv .1
 
 add-i : tie.Need-add-i Inv-loop μ-loop
@@ -37,7 +44,7 @@ loop-again : tie.Need-loop-again Inv-loop μ-loop
 loop-again c =
     let at = c .before .before .before in (
       omega arith,
-      sym (first-later _ _ (at .before .args .k) (c .before .before .loop-test .taken) (sym (c .before .is-broken .ensures) ∙ c .if1 .left))
+      sym (first-later _ _ (at .before .args .k) (c .before .before .loop-test .taken) (tested (c .before) false (c .if1 .left)))
           ∙ at .loop .inv .1,
     )
 

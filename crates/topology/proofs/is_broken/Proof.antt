@@ -26,8 +26,11 @@ contains-requires c κs = search needs
 enum-told-3 : tie.Need-enum-told-3
 enum-told-3 c = search needs
 
-names-one-sided-requires : tie.Need-names-one-sided-requires
-names-one-sided-requires c κs = search needs
+mul-result : tie.Need-mul-result
+mul-result c = search needs
+
+element-copy-out-result : tie.Need-element-copy-out-result
+element-copy-out-result c = search needs
 
 enum-known-rule : tie.Need-enum-known-rule
 enum-known-rule c = search needs
@@ -42,7 +45,7 @@ returns-2 : tie.Need-returns-2
 returns-2 c = rw (c .before .enum-told2 .given .1) (c .contains .ensures)
 
 returns-3 : tie.Need-returns-3
-returns-3 c = rw (c .before .enum-told3 .given .1) (c .names-one-sided .ensures)
+returns-3 c = rw (c .before .enum-told3 .given .1)
 
 returns-4 : tie.Need-returns-4
 returns-4 c = rw (c .before .before .rule .given .1) (ap not (c .contains2 .ensures))
@@ -58,7 +61,8 @@ is-broken-spec =
     enum-told-2
     contains-requires
     enum-told-3
-    names-one-sided-requires
+    mul-result
+    element-copy-out-result
     enum-known-rule
     contains-requires-2
     returns

@@ -1,12 +1,13 @@
--- `topology::reach` meets its contract. Invariant: the set of the stations that fewer than t links join to the root. Assumes
--- nothing.
-use mathlib.Core.Path.{_≡_, ap, _∙_}
-use Prim.Native.Nat.{ℕ, _≤_, _-_}
+-- `topology::reach` meets its contract. Invariant: the set of the stations that fewer than t links join to the root; a round that
+-- leaves it as it is leaves it to the end. Assumes nothing.
+use mathlib.Core.Path.{_≡_, sym, ap, _∙_}
+use Prim.Native.Nat.{ℕ, _+_, _≤_, _-_}
 use native.Mathlib.Omega.{arith}
 use borrow.Author.Needs.{needs}
 use Rattle.topology.specs.Acceptance.{linked, near}
-use Rattle.topology.specs.Parts.{setOf, roundOf}
-use Rattle.topology.proofs.Sets.{round-near, round-zero}
+use Rattle.bitset.specs.Set.{setOf}
+use Rattle.topology.specs.Parts.{roundOf}
+use Rattle.topology.proofs.Sets.{round-near, round-zero, rounds-settle}
 use Rattle.topology.proofs.reach.Statement.{statement}
 use Rattle.topology.proofs.reach.Tie as tie
 
@@ -22,6 +23,20 @@ loop-holds c = (omega arith, round-zero (c .args .root) (c .args .k) (linked (c 
 round-requires : tie.Need-round-requires Inv-loop μ-loop
 round-requires c κs = search needs
 
+returns : tie.Need-returns Inv-loop μ-loop
+returns c =
+    let at = c .before .before .before in
+    let start = at .before in
+    let root = start .args .root in
+    let k = start .args .k in
+    let sets = start .args .sets .now in
+    let t = at .loop .t in
+    let whole : t + (k - t) ≡ k = omega arith in
+    let still = ap (roundOf root k sets) (sym (at .loop .inv .1)) ∙ sym (c .before .round .ensures) ∙ c .if1 .taken ∙ at .loop .inv .1 in
+    at .loop .inv .1
+    ∙ sym (rounds-settle root k sets t (k - t) still)
+    ∙ ap (λ (n : ℕ). setOf k (near (linked k sets) root k n)) whole
+
 add-t : tie.Need-add-t Inv-loop μ-loop
 add-t c = omega arith
 
@@ -30,17 +45,17 @@ loop-less c = omega arith
 
 loop-again : tie.Need-loop-again Inv-loop μ-loop
 loop-again c =
-    let at = c .before .before in
+    let at = c .before .before .before in
     let start = at .before in
     let root = start .args .root in
     let k = start .args .k in
     let sets = start .args .sets .now in (
       omega arith,
-      c .round .ensures ∙ ap (roundOf root k sets) (at .loop .inv .1) ∙ round-near root k sets (at .loop .t),
+      c .before .round .ensures ∙ ap (roundOf root k sets) (at .loop .inv .1) ∙ round-near root k sets (at .loop .t),
     )
 
-returns : tie.Need-returns Inv-loop μ-loop
-returns c =
+returns-2 : tie.Need-returns-2 Inv-loop μ-loop
+returns-2 c =
     let start = c .before .before in
     let root = start .args .root in
     let k = start .args .k in
@@ -51,4 +66,4 @@ returns c =
 pub reach-spec : {M : Type 1} → statement M
 reach-spec =
     tie.close
-    (tie.spec Inv-loop μ-loop loop-holds round-requires add-t loop-less loop-again returns)
+    (tie.spec Inv-loop μ-loop loop-holds round-requires returns add-t loop-less loop-again returns-2)

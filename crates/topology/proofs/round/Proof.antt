@@ -1,14 +1,13 @@
--- `topology::round` meets its contract. Invariant: the set of the stations below i that are near; one station more makes no carry,
--- since a set of stations below i + 1 is below 2 ^ (i + 1). Assumes nothing.
-use mathlib.Core.Path.{_≡_, refl, sym, ap, ap₂, _∙_}
-use mathlib.Core.Bool.{Bool, cond}
-use Prim.Native.Nat.{ℕ, _+_, _-_, _≤_, _^_}
+-- `topology::round` meets its contract. Invariant: the set of the stations below i that are near. Assumes nothing.
+use mathlib.Core.Path.{_≡_, refl, ap, _∙_}
+use mathlib.Core.Bool.{Bool}
+use Prim.Native.Nat.{ℕ, _+_, _-_, _≤_, _<_, _^_}
 use native.Mathlib.Omega.{arith}
 use lib.ListN.{getD}
-use lib.Pow.{pow-mono}
 use borrow.Author.Needs.{needs}
-use Rattle.topology.specs.Parts.{setOf, nearBy}
-use Rattle.topology.proofs.Sets.{set-lt, set-more}
+use Rattle.bitset.specs.Set.{bitIf, setOf}
+use Rattle.bitset.proofs.Selected.{set-next}
+use Rattle.topology.specs.Parts.{nearBy}
 use Rattle.topology.proofs.round.Statement.{statement}
 use Rattle.topology.proofs.round.Tie as tie
 
@@ -25,11 +24,12 @@ test c x =
 
 -- a turn adds station i, if it is near
 next : (c : tie.After-bit-if Inv-loop μ-loop)
-    → c .before .before .before .before .loop .out + c .bit-if .result ≡ setOf (c .before .before .before .before .loop .i + 1) (test c)
+    → let at = c .before .before .before .before .loop in
+    (at .out + c .bit-if .result ≡ setOf (at .i + 1) (test c)) × (at .out + c .bit-if .result < 2 ^ 64)
 next c =
     let at = c .before .before .before .before in
-    ap₂ _+_ (at .loop .inv .1) (c .bit-if .ensures ∙ ap (λ (b : Bool). cond b (2 ^ (at .loop .i)) 0) (c .before .is-near .ensures))
-    ∙ sym (set-more (test c) (at .loop .i))
+    set-next (test c) (at .loop .i) (omega arith) (at .loop .inv .1)
+    (c .bit-if .ensures ∙ ap (λ (b : Bool). bitIf b (at .loop .i)) (c .before .is-near .ensures))
 
 loop-holds : tie.Need-loop-holds Inv-loop μ-loop
 unfolding setOf
@@ -51,9 +51,7 @@ bit-if-requires : tie.Need-bit-if-requires Inv-loop μ-loop
 bit-if-requires c κs = search needs
 
 add-out : tie.Need-add-out Inv-loop μ-loop
-add-out c =
-    let i = c .before .before .before .before .loop .i in
-    omega (arith, next c, set-lt (i + 1) (test c), pow-mono {i = i + 1} {j = 64} (omega arith))
+add-out c = omega (arith, next c .1)
 
 add-i : tie.Need-add-i Inv-loop μ-loop
 add-i c = omega arith
@@ -62,7 +60,7 @@ loop-less : tie.Need-loop-less Inv-loop μ-loop
 loop-less c = omega arith
 
 loop-again : tie.Need-loop-again Inv-loop μ-loop
-loop-again c = (omega arith, next c)
+loop-again c = (omega arith, next c .0)
 
 returns : tie.Need-returns Inv-loop μ-loop
 returns c =

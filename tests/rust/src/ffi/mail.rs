@@ -1,102 +1,112 @@
-//! Stations with mail: a box is an enum and cannot cross to C, so the net is lent as an image of 64-bit words.
+//! Stations with mail: a box is an enum, which C has not, so the net is lent as an image. Not every image is a net's.
 
 use super::lending::{LaidOut, Packed};
 use super::map::Map;
-use super::net::{Exports, RunAnswer};
+use super::net::{Config, Exports, RunAnswer};
+use super::station::{Aggregate, Station};
 use crate::model::mail::{Mail, Mailbox, Message};
 use crate::model::net::Step;
-use crate::model::station::Station;
 use crate::model::PLACES;
 
-/// A station's words: sum, neighbours, parent, waits, state.
-const STATION: usize = 5;
+pub const EMPTY: u8 = 0;
+pub const START: u8 = 1;
+pub const ANSWER: u8 = 2;
 
-/// A box's words: 0 empty, 1 start, 2 answer; then the answer's sum.
-const BOX: usize = 2;
+/// A box: what it holds, and what an answer brings.
+#[derive(Clone, Copy, PartialEq, Eq, Debug)]
+#[repr(C)]
+pub struct Letter {
+    pub content: u8,
+    pub held: Aggregate,
+}
 
-const WORDS: usize = 1 + STATION * PLACES + BOX * PLACES * PLACES;
-
-/// k, then the stations, then the boxes by sender and receiver.
-#[derive(Clone)]
+/// The boxes stand by sender, then receiver.
+#[derive(Clone, PartialEq, Eq, Debug)]
 #[repr(C)]
 pub struct Image {
-    words: [u64; WORDS],
+    pub config: Config,
+    pub stations: [Station; PLACES],
+    pub boxes: [Letter; PLACES * PLACES],
 }
 
 extern "C" {
-    fn tally_mailbox_fresh(words: *mut u64, length: usize, map: Map) -> Packed;
-    fn tally_mailbox_step(words: *mut u64, length: usize, kind: u8, sender: u8, receiver: u8) -> Packed;
-    fn tally_mailbox_draw(words: *mut u64, length: usize, draw: u16) -> Packed;
-    fn tally_mailbox_run(words: *mut u64, length: usize, draws: *const u16, count: usize) -> RunAnswer;
+    fn tally_mailbox_fresh(net: *mut Image, map: Map) -> Packed;
+    fn tally_mailbox_step(net: *mut Image, kind: u8, sender: u8, receiver: u8) -> Packed;
+    fn tally_mailbox_draw(net: *mut Image, draw: u16) -> Packed;
+    fn tally_mailbox_run(net: *mut Image, draws: *const u16, length: usize) -> RunAnswer;
+}
+
+impl LaidOut for Mailbox {
+    type Layout = Letter;
+
+    fn lay_out(&self) -> Letter {
+        let (content, sum) = match *self {
+            None => (EMPTY, 0),
+            Some(Message::Start) => (START, 0),
+            Some(Message::Answer(sum)) => (ANSWER, sum),
+        };
+        Letter { content, held: Aggregate { sum } }
+    }
+
+    fn take_back(layout: &Letter) -> Mailbox {
+        match (layout.content, layout.held.sum) {
+            (EMPTY, 0) => None,
+            (START, 0) => Some(Message::Start),
+            (ANSWER, sum) => Some(Message::Answer(sum)),
+            other => panic!("no box has the letter {other:?}"),
+        }
+    }
 }
 
 impl LaidOut for Mail {
     type Layout = Image;
 
     fn lay_out(&self) -> Image {
-        let stations = self.stations.iter().flat_map(station_words);
-        let boxes = self.boxes.iter().flatten().flat_map(|&mailbox| box_words(mailbox));
-        let mut image = Image { words: [0; WORDS] };
-        let words = std::iter::once(self.k.into()).chain(stations).chain(boxes);
-        image.words.iter_mut().zip(words).for_each(|(place, word)| *place = word);
-        image
+        Image {
+            config: Config { k: self.k },
+            stations: self.stations.map(|station| station.lay_out()),
+            boxes: std::array::from_fn(|at| self.boxes[at / PLACES][at % PLACES].lay_out()),
+        }
     }
 
     fn take_back(layout: &Image) -> Mail {
-        let (k, rest) = layout.words.split_at(1);
-        let (stations, boxes) = rest.split_at(STATION * PLACES);
+        let row =
+            |sender| std::array::from_fn(|receiver| LaidOut::take_back(&layout.boxes[sender * PLACES + receiver]));
         Mail {
-            k: byte(k[0]),
-            stations: std::array::from_fn(|i| station(&stations[STATION * i..])),
-            boxes: boxes.chunks(BOX * PLACES).map(|row| std::array::from_fn(|j| mailbox(&row[BOX * j..]))).collect(),
+            k: layout.config.k,
+            stations: std::array::from_fn(|i| LaidOut::take_back(&layout.stations[i])),
+            boxes: (0..PLACES).map(row).collect(),
         }
     }
 }
 
-fn station_words(station: &Station) -> [u64; STATION] {
-    let Station { sum, unstarted, parent, waits, state } = *station;
-    [sum, unstarted, parent.into(), waits.into(), state.into()]
-}
+/// An image as it stands, a net's or not.
+impl LaidOut for Image {
+    type Layout = Image;
 
-fn station(words: &[u64]) -> Station {
-    Station { sum: words[0], unstarted: words[1], parent: byte(words[2]), waits: byte(words[3]), state: byte(words[4]) }
-}
-
-fn box_words(mailbox: Mailbox) -> [u64; BOX] {
-    match mailbox {
-        None => [0, 0],
-        Some(Message::Start) => [1, 0],
-        Some(Message::Answer(sum)) => [2, sum],
+    fn lay_out(&self) -> Image {
+        self.clone()
     }
-}
 
-fn mailbox(words: &[u64]) -> Mailbox {
-    match words[..BOX] {
-        [0, 0] => None,
-        [1, 0] => Some(Message::Start),
-        [2, sum] => Some(Message::Answer(sum)),
-        ref other => panic!("no box has the words {other:?}"),
+    fn take_back(layout: &Image) -> Image {
+        layout.clone()
     }
-}
-
-fn byte(word: u64) -> u8 {
-    u8::try_from(word).unwrap_or_else(|_| panic!("no field has the word {word}"))
 }
 
 impl Exports for Image {
     fn fresh(&mut self, map: Map) -> Packed {
-        unsafe { tally_mailbox_fresh(self.words.as_mut_ptr(), WORDS, map) }
+        unsafe { tally_mailbox_fresh(self, map) }
     }
 
     fn step(&mut self, Step { kind, sender, receiver }: Step) -> Packed {
-        unsafe { tally_mailbox_step(self.words.as_mut_ptr(), WORDS, kind, sender, receiver) }
+        unsafe { tally_mailbox_step(self, kind, sender, receiver) }
     }
 
     fn draw(&mut self, draw: u16) -> Packed {
-        unsafe { tally_mailbox_draw(self.words.as_mut_ptr(), WORDS, draw) }
+        unsafe { tally_mailbox_draw(self, draw) }
     }
 
     unsafe fn run(&mut self, draws: *const u16, length: usize) -> RunAnswer {
-        tally_mailbox_run(self.words.as_mut_ptr(), WORDS, draws, length)
+        tally_mailbox_run(self, draws, length)
     }
 }

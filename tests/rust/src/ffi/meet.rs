@@ -2,17 +2,11 @@
 
 use super::lending::{LaidOut, Packed};
 use super::map::Map;
-use super::net::{Exports, RunAnswer};
+use super::net::{Config, Exports, RunAnswer};
 use super::station::Station;
 use crate::model::meet::Meet;
 use crate::model::net::Step;
 use crate::model::PLACES;
-
-#[derive(Clone)]
-#[repr(C)]
-pub struct Config {
-    k: u8,
-}
 
 #[derive(Clone)]
 #[repr(C)]

@@ -7,6 +7,13 @@ use crate::model::map::Map;
 use crate::model::net::{Run, Step};
 use crate::model::refusal::Refusal;
 
+/// What a net is opened with.
+#[derive(Clone, Copy, PartialEq, Eq, Debug)]
+#[repr(C)]
+pub struct Config {
+    pub k: u8,
+}
+
 /// What a run returns: its number, with 1 where the net is at rest, and the steps made.
 #[repr(C)]
 pub struct RunAnswer {

@@ -6,13 +6,13 @@ use crate::calls::StationCalls;
 use crate::model::refusal::Refusal;
 use crate::model::station::{self as model, Answer, Event};
 
-#[derive(Clone, Copy)]
+#[derive(Clone, Copy, PartialEq, Eq, Debug)]
 #[repr(C)]
 pub struct Aggregate {
-    sum: u64,
+    pub sum: u64,
 }
 
-#[derive(Clone, Copy)]
+#[derive(Clone, Copy, PartialEq, Eq, Debug)]
 #[repr(C)]
 pub struct Station {
     held: Aggregate,

@@ -14,13 +14,13 @@ use Rattle.linemap.proofs.reading.read_rows.Statement.{statement}
 use Rattle.linemap.proofs.reading.read_rows.Tie as tie
 
 abbrev Inv-loop : tie.InvT-loop
-Inv-loop s k lot start counts₀ neighbours₀ i₀ counts neighbours i =
+Inv-loop s k lot start rows counts₀ neighbours₀ i₀ counts neighbours i =
     (i ≤ k)
     × (counts ≡ column (λ j. number s (start + rowLength * j) 4) i)
     × (neighbours ≡ column (λ j. number s (start + rowLength * j + 4) 8) i)
 
 abbrev μ-loop : tie.MeasureT-loop
-μ-loop s k lot start counts₀ neighbours₀ i₀ counts neighbours i = k - i
+μ-loop s k lot start rows counts₀ neighbours₀ i₀ counts neighbours i = k - i
 
 loop-holds : tie.Need-loop-holds Inv-loop μ-loop
 loop-holds c = (search needs, sym (column-none _), sym (column-none _))
@@ -83,9 +83,6 @@ loop-again c =
       cc (row, column-more (λ j. number s (a .start + rowLength * j + 4) 8) i (omega arith)),
     )
 
-cast-t19 : tie.Need-cast-t19 Inv-loop μ-loop
-cast-t19 c = search needs
-
 judge-requires : tie.Need-judge-requires Inv-loop μ-loop
 judge-requires c κs = search needs
 
@@ -122,6 +119,5 @@ read-rows-spec =
     add-i
     loop-less
     loop-again
-    cast-t19
     judge-requires
     returns-2)

@@ -26,6 +26,9 @@ count c =
     ap isStationCount (sym (c .before .before .before .before .get .ensures .0))
     ∙ sym (c .before .is-station-count .ensures) ∙ not-false _ (c .if3 .left)
 
+few : (c : tie.Else3) → c .before .before .before .before .get .result ≤ 64
+few c = few-stations _ (rw (← c .before .before .before .before .get .ensures .0) at (count c))
+
 back : (c : tie.Else4)
     → let s = c .before .before .before .before .before .before .before .before .before .args .s .now in distanceIn s ≡ rowLength * stationsIn s
 back c =
@@ -56,6 +59,9 @@ returns-3 c =
     ∙ sym (c .before .is-station-count .ensures) ∙ not-true _ (c .if3 .taken) in
     stations _ (long (c .before .before .before .before .before)) (row (c .before .before)) none
 
+cast-k : tie.Need-cast-k
+cast-k c = omega (arith, few c)
+
 add-get-2 : tie.Need-add-get-2
 add-get-2 c = search needs
 
@@ -63,7 +69,7 @@ get-requires-3 : tie.Need-get-requires-3
 get-requires-3 c κs = search needs
 
 mul-if4 : tie.Need-mul-if4
-mul-if4 c = search needs
+mul-if4 c = omega (arith, few (c .before))
 
 returns-4 : tie.Need-returns-4
 returns-4 c =
@@ -75,10 +81,7 @@ returns-4 c =
     (λ e. c .if4 .taken (c .before .get3 .ensures .0 ∙ e ∙ ap (λ (n : ℕ). rowLength * n) (sym stations-are)))
 
 stored-length-requires : tie.Need-stored-length-requires
-stored-length-requires c κs =
-    let stations-are = c .before .before .before .before .before .before .get .ensures .0 in
-    let start = c .before .before .before .before .before .before .before .before .before in
-    omega (arith, few-stations (stationsIn (start .args .s .now)) (count (c .before .before)))
+stored-length-requires c κs = search needs
 
 returns-5 : tie.Need-returns-5
 returns-5 c =
@@ -121,6 +124,7 @@ read-trailer-spec =
     returns-2
     is-station-count-requires
     returns-3
+    cast-k
     add-get-2
     get-requires-3
     mul-if4

@@ -4,7 +4,7 @@ use borrow.Author.Needs.{needs}
 use Rattle.schedule.proofs.Listing.{range-bounds}
 use Rattle.mailbox.specs.Rules.{applied, rules}
 use Rattle.schedule.proofs.Answers.{allowed-parts}
-use Rattle.mailbox.proofs.Laws.{delivery-apart, places}
+use Rattle.mailbox.proofs.Laws.{delivery-may, places}
 use Rattle.mailbox.proofs.delivery.apply.Statement.{statement}
 use Rattle.mailbox.proofs.delivery.apply.Tie as tie
 
@@ -18,7 +18,7 @@ deliver-requires c κs =
     let step = start .args .step in
     let both = allowed-parts rules net step (start .pre .1) in
     let bounds = range-bounds rules net step (both .0) in
-    (start .pre .0, (bounds .sender-low, (bounds .receiver-low, delivery-apart net step (c .match .keys1) (both .1))))
+    (start .pre .0, (bounds .sender-low, (bounds .receiver-low, delivery-may net step (c .match .keys1) (both .1) .0)))
 
 report-requires : tie.Need-report-requires
 report-requires c κs =

@@ -1,0 +1,96 @@
+-- Rows list the steps that a net allows: a row has as many steps as its set has members, and the rows of a net's allowed steps, row by row,
+-- are its list. Assumes nothing.
+use mathlib.Core.Path.{_≡_, refl, sym, _∙_, ap, ap₂}
+use mathlib.Core.Bool.{Bool, false}
+use mathlib.Core.List.{List, _++_, map, flatMap}
+use Prim.Native.Nat.{ℕ, zero, suc, _+_, _-_, _*_, _^_, _≤_, _<_}
+use native.Mathlib.Nat.{add-zero, zero-add, le-trans, mul-le-mul-left, mul-le-mul-right}
+use native.Mathlib.Omega.{arith}
+use lib.ListN.{length}
+use Rattle.finite.proofs.Cases.{by-bool}
+use Rattle.finite.specs.Sum.{addition, sumTo, indicator}
+use Rattle.finite.proofs.Sums.{sum-ext, sum-first}
+use Rattle.bitset.specs.Set.{member, size, setOf}
+use Rattle.bitset.proofs.Laws.{size-sum, no-member-from}
+use Rattle.bitset.proofs.Selected.{set-lt, set-member}
+use Rattle.schedule.specs.declared.Step.{Step}
+use Rattle.schedule.specs.Rules.{Rules, allowed}
+use Rattle.schedule.specs.Listing.{count, range, keepIf, select, step, listed}
+use Rattle.schedule.specs.Rows.{stepsFrom, stepsOfKind, stepsOf, rowAt, inRows, listedIn, AreRows}
+use Rattle.schedule.proofs.Parts.{select-append, candidates-are, length-select, length-stepsOf}
+
+-- how many of n steps pass a test
+length-passing : (p : Step → Bool) (f : ℕ → Step) (a n : ℕ)
+    → length (select p (map f (count a n))) ≡ sumTo addition n (λ i. indicator (p (f (a + i))))
+unfolding select keepIf count sumTo indicator
+length-passing p f a zero = refl
+length-passing p f a (suc n) =
+    let g : ℕ → ℕ = λ i. indicator (p (f (a + i))) in
+    let rest : length (select p (map f (count (suc a) n))) ≡ sumTo addition n (λ i. g (suc i)) =
+    length-passing p f (suc a) n ∙ sum-ext addition n _ _ (λ i l. ap (λ (m : ℕ). indicator (p (f m))) (omega arith)) in
+    let first : indicator (p (f a)) ≡ g 0 = ap (λ (m : ℕ). indicator (p (f m))) (sym (add-zero a)) in
+    by-bool (p (f a))
+    (λ t. rw t (let one = ap indicator (sym t) in omega (arith, rest, first, one, sum-first n g)))
+    (λ t. rw t (let none = ap indicator (sym t) in omega (arith, rest, first, none, sum-first n g)))
+
+-- a row has as many steps as its set has members
+pub row-length : (rows : List ℕ) (kind s : ℕ) → rowAt rows kind s < 2 ^ 64
+    → size (rowAt rows kind s) ≡ length (select (inRows rows) (stepsFrom 64 kind s 0))
+unfolding stepsFrom range inRows
+row-length rows kind s h =
+    size-sum 64 (rowAt rows kind s) (omega arith) h
+    ∙ sum-ext addition 64 _ _ (λ j l. ap (λ (n : ℕ). indicator (member n (rowAt rows kind s))) (sym (zero-add j)))
+    ∙ sym (length-passing (inRows rows) (step kind s) 0 64)
+
+-- steps are listed alike where each part is
+select-flat : (p q : Step → Bool) (f g : ℕ → List Step) (a n : ℕ) → ((x : ℕ) → a ≤ x → x < a + n → select p (f x) ≡ select q (g x))
+    → select p (flatMap f (count a n)) ≡ select q (flatMap g (count a n))
+unfolding flatMap count select
+select-flat p q f g a zero same = refl
+select-flat p q f g a (suc n) same =
+    select-append p (f a) (flatMap f (count (suc a) n))
+    ∙ ap₂ _++_ (same a (omega arith) (omega arith)) (select-flat p q f g (suc a) n (λ x h l. same x (omega arith) (omega arith)))
+    ∙ sym (select-append q (g a) (flatMap g (count (suc a) n)))
+
+-- a row tested by its set, over all 64 receivers, and by what the set was made of, over those below k
+select-row : (p q : Step → Bool) (f : ℕ → Step) (a k w : ℕ) → k ≤ w → ((i : ℕ) → a ≤ i → i < a + k → p (f i) ≡ q (f i))
+    → ((i : ℕ) → a + k ≤ i → p (f i) ≡ false) → select p (map f (count a w)) ≡ select q (map f (count a k))
+unfolding select keepIf count
+select-row p q f a zero zero h same none = refl
+select-row p q f a zero (suc w) h same none =
+    rw (none a (omega arith)) (select-row p q f (suc a) zero w (omega arith) (λ i g l. absurd (let z : ⊥ = omega arith in z)) (λ i g. none i (omega arith)))
+select-row p q f a (suc k) zero h same none = absurd (let z : ⊥ = omega arith in z)
+select-row p q f a (suc k) (suc w) h same none =
+    rw (same a (omega arith) (omega arith))
+    (ap (keepIf (q (f a)) (f a)) (select-row p q f (suc a) k w (omega arith) (λ i g l. same i (omega arith) (omega arith)) (λ i g. none i (omega arith))))
+
+-- the rows of the steps that a net allows list them
+module _ {Net : Type 0} (R : Rules Net) (net : Net) (rows : List ℕ) (are : AreRows R net rows) (few : R .stations net ≤ 64) where
+  abbrev k : ℕ
+  k = R .stations net
+
+  row-lists : (kind s : ℕ) → 1 ≤ kind → kind ≤ R .kinds → s < k
+      → select (inRows rows) (stepsFrom 64 kind s 0) ≡ select (allowed R net) (stepsFrom k kind s 0)
+  unfolding stepsFrom range inRows
+  row-lists kind s l h m =
+      let test : ℕ → Bool = λ r. allowed R net (step kind s r) in
+      let row = are .row kind s l h m in
+      let same : (n : ℕ) → n - 0 ≡ n = λ n. omega arith in
+      rw (same k)
+      (select-row (inRows rows) (allowed R net) (step kind s) 0 k 64 few
+      (λ i a b. ap (member i) row ∙ set-member k test i (omega arith))
+      (λ i a. ap (member i) row ∙ no-member-from k i (setOf k test) (set-lt k test) (omega arith)))
+
+  pub rows-list : listedIn rows (R .kinds) k ≡ listed R net
+  unfolding listedIn listed stepsOf stepsOfKind range
+  rows-list =
+      select-flat (inRows rows) (allowed R net) _ _ 1 _ (λ kind h l.
+      select-flat (inRows rows) (allowed R net) _ _ 0 _ (λ s a b. row-lists kind s h (omega arith) (omega arith)))
+      ∙ sym (ap (select (allowed R net)) (candidates-are (R .kinds) k))
+
+-- no rows list so many steps
+pub listed-few : (rows : List ℕ) (kinds k : ℕ) → kinds ≤ 255 → k ≤ 255 → length (listedIn rows kinds k) ≤ 255 * (255 * 64)
+unfolding listedIn
+listed-few rows kinds k h l =
+    le-trans (length-select (inRows rows) (stepsOf 64 kinds k 1))
+    (rw (length-stepsOf 64 kinds k) (le-trans (mul-le-mul-right (k * 64) h) (mul-le-mul-left 255 (mul-le-mul-right 64 l))))

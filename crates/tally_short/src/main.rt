@@ -1,0 +1,1 @@
+../../tally/src/main.rt

@@ -1,0 +1,48 @@
+-- The laws of `Put`, a run of bytes stored: one after another, a byte, one byte more of a word; and of the room for it. Assumes nothing.
+use mathlib.Core.Path.{_≡_, refl, ap, sym, _∙_}
+use mathlib.Core.List.{List, [], _∷_, _++_}
+use Prim.Native.Nat.{ℕ, suc, _+_, _<_}
+use native.Mathlib.Nat.{add-zero, add-suc, suc-add}
+use native.Mathlib.Numerals.{add-one}
+use native.Mathlib.Omega.{arith}
+use lib.ListN.{length, set, take, getD, length-append}
+use lib.Seq.{sets, length-sets, length-take-le, take-suc}
+use Rattle.text.specs.Putting.{Room, Put}
+
+-- a run right after another is one run
+sets-sets : (vs ws l : List ℕ) (at : ℕ) → sets (sets l at vs) (at + length vs) ws ≡ sets l at (vs ++ ws)
+sets-sets [] ws l at = rw add-zero
+sets-sets (v ∷ vs) ws l at =
+    ap (λ (n : ℕ). sets (sets (set l at v) (suc at) vs) n ws) (add-suc at (length vs) ∙ sym (suc-add at (length vs)))
+    ∙ sets-sets vs ws (set l at v) (suc at)
+
+pub put-then : {l l₁ l₂ : List ℕ} {vs ws : List ℕ} {at r₁ r₂ : ℕ} → Put l at vs l₁ r₁ → Put l₁ r₁ ws l₂ r₂ → Put l at (vs ++ ws) l₂ r₂
+put-then {l} {l₁} {l₂} {vs} {ws} {at} {r₁} {r₂} a b =
+    record {
+      bytes =
+          b .bytes
+          ∙ ap (λ (x : List ℕ). sets x r₁ ws) (a .bytes)
+          ∙ ap (λ (n : ℕ). sets (sets l at vs) n ws) (a .end)
+          ∙ sets-sets vs ws l at;
+      end = omega (arith, a .end, b .end, length-append vs ws);
+    }
+
+pub put-one : (l : List ℕ) (at v : ℕ) → Put l at (v ∷ []) (set l at v) (at + 1)
+put-one l at v = record { bytes = refl; end = omega arith }
+
+-- room for two runs is room for the first, and then for the second
+pub room-first : {l vs : List ℕ} {at : ℕ} (ws : List ℕ) → Room l at (vs ++ ws) → Room l at vs
+room-first {l} {vs} {at} ws room = record { fits = omega (arith, length-append vs ws) }
+
+pub room-next : {l l₁ vs ws : List ℕ} {at r : ℕ} → Room l at (vs ++ ws) → Put l at vs l₁ r → Room l₁ r ws
+room-next {l} {l₁} {vs} {ws} {at} {r} room p =
+    record { fits = omega (arith, length-append vs ws, p .end, ap length (p .bytes), length-sets l at vs) }
+
+-- one byte more of a word
+pub put-more : {l l′ : List ℕ} {at : ℕ} (word : List ℕ) (i : ℕ) → i < length word → Put l at (take i word) l′ (at + i)
+    → Put l at (take (i + 1) word) (set l′ (at + i) (getD word i 0)) (at + (i + 1))
+put-more {l} {l′} {at} word i h p =
+    let byte : ℕ = getD word i 0 in
+    let next = put-then p (put-one l′ (at + i) byte) in
+    let more : take i word ++ (byte ∷ []) ≡ take (i + 1) word = sym (take-suc word i 0 h) ∙ rw add-one in
+    record { bytes = next .bytes ∙ ap (sets l at) more; end = omega (arith, length-take-le (i + 1) word (omega arith)) }

@@ -1,0 +1,128 @@
+// The lines of the program's output, as bytes (document 01, "The program").
+use aggregate::Aggregate;
+ghost use mathlib.Core.Path.{_≡_};
+ghost use mathlib.Core.List.{_++_};
+ghost use lib.ListN.{length};
+ghost use Rattle.text.specs.Text.{digits, item, aggregateText, wordsOf, textIn, over};
+ghost use Rattle.text.specs.Putting.{Room, Put};
+
+pub enum Line {
+    // Sender and receiver.
+    Wake(u8, u8),
+    Pass(u8, u8),
+    // Sender, receiver, and what the sender answers.
+    Answer(u8, u8, Aggregate),
+    // The root (01: the desk), and what it reports.
+    Report(u8, Aggregate),
+    Closing { lot: u32, steps: u64, links: u32 },
+    Refused(u8),
+    RefusedStation(u8, u8),
+}
+
+const LINE_ROOM: usize = 80;
+
+const MOST_DIGITS: u8 = 20;
+
+fn put_word(buf: &mut [u8], at: usize, word: &[u8]) -> usize
+    requires { ⌜ Room (now buf) at (now word) ⌝ }
+    ensures { λ r. ⌜ Put (now (buf .entry)) at (now (word .entry)) (now (buf .exit)) r ⌝ }
+{
+    let mut i: usize = 0;
+    while i < word.len() {
+        buf[at + i] = word[i];
+        i += 1;
+    }
+    at + i
+}
+
+// n in decimal, by at most `most` digits.
+fn put_number(buf: &mut [u8], at: usize, n: u64, most: u8) -> usize
+    requires { ⌜ Room (now buf) at (digits most n) ⌝ }
+    ensures { λ r. ⌜ Put (now (buf .entry)) at (digits most n) (now (buf .exit)) r ⌝ }
+{
+    if most == 0 {
+        return at;
+    }
+    if n < 10 {
+        buf[at] = b'0' + n as u8;
+        return at + 1;
+    }
+    let last = put_number(buf, at, n / 10, most - 1);
+    buf[last] = b'0' + (n % 10) as u8;
+    last + 1
+}
+
+// A word, then a number.
+fn put_item(buf: &mut [u8], at: usize, word: &[u8], n: u64) -> usize
+    requires { ⌜ Room (now buf) at (item (now word) n) ⌝ }
+    ensures { λ r. ⌜ Put (now (buf .entry)) at (item (now (word .entry)) n) (now (buf .exit)) r ⌝ }
+{
+    let end = put_word(buf, at, word);
+    put_number(buf, end, n, MOST_DIGITS)
+}
+
+// Two words, each with a number, from the start of buf.
+fn put_two(buf: &mut [u8], a: &[u8], x: u64, b: &[u8], y: u64) -> usize
+    requires { ⌜ Room (now buf) 0 (item (now a) x ++ item (now b) y) ⌝ }
+    ensures { λ r. ⌜ Put (now (buf .entry)) 0 (item (now (a .entry)) x ++ item (now (b .entry)) y) (now (buf .exit)) r ⌝ }
+{
+    let end = put_item(buf, 0, a, x);
+    put_item(buf, end, b, y)
+}
+
+// What an answer or a report carries.
+fn put_aggregate(buf: &mut [u8], at: usize, a: Aggregate) -> usize
+    requires { ⌜ Room (now buf) at (aggregateText a) ⌝ }
+    ensures { λ r. ⌜ Put (now (buf .entry)) at (aggregateText a) (now (buf .exit)) r ⌝ }
+{
+    put_item(buf, at, b" ", aggregate::sum_of(a))
+}
+
+// The line, but for its line feed.
+fn put_words(buf: &mut [u8], line: Line) -> usize
+    requires { ⌜ Room (now buf) 0 (wordsOf line) ⌝ }
+    ensures { λ r. ⌜ Put (now (buf .entry)) 0 (wordsOf line) (now (buf .exit)) r ⌝ }
+{
+    match line {
+        Line::Wake(sender, receiver) => {
+            put_two(buf, b"wake ", sender as u64, b" ", receiver as u64)
+        }
+        Line::Pass(sender, receiver) => {
+            put_two(buf, b"pass ", sender as u64, b" ", receiver as u64)
+        }
+        Line::Answer(sender, receiver, a) => {
+            let end = put_two(buf, b"answer ", sender as u64, b" ", receiver as u64);
+            put_aggregate(buf, end, a)
+        }
+        Line::Report(root, a) => {
+            let end = put_item(buf, 0, b"report ", root as u64);
+            put_aggregate(buf, end, a)
+        }
+        Line::Closing { lot, steps, links } => {
+            let end = put_two(buf, b"lot ", lot as u64, b" steps ", steps);
+            put_item(buf, end, b" links ", links as u64)
+        }
+        Line::Refused(number) => put_item(buf, 0, b"refused ", number as u64),
+        Line::RefusedStation(number, station) => {
+            put_two(
+                buf,
+                b"refused ",
+                number as u64,
+                b" station ",
+                station as u64,
+            )
+        }
+    }
+}
+
+// Puts the line at the start of buf and answers its length. A buf of under 80 bytes is left as it was, and the answer is 0.
+pub fn put_line(buf: &mut [u8], line: Line) -> usize
+    ensures count { λ r. ⌜ r ≡ length (textIn (length (now (buf .entry))) line) ⌝ }
+    ensures bytes { λ _. ⌜ now (buf .exit) ≡ over (textIn (length (now (buf .entry))) line) (now (buf .entry)) ⌝ }
+{
+    if buf.len() < LINE_ROOM {
+        return 0;
+    }
+    let end = put_words(buf, line);
+    put_word(buf, end, b"\n")
+}
