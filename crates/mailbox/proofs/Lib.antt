@@ -1,5 +1,4 @@
 pub mod RowSets
-pub mod Filling
 pub mod Laws
 pub mod Posting
 pub mod Delivered

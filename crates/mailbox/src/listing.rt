@@ -3,7 +3,6 @@ use crate::Net;
 use crate::delivery::may_deliver;
 use crate::delivery::may_report;
 use bitset::bit_if;
-ghost use mathlib.Core.Path.{_≡_};
 ghost use Prim.Native.Nat.{_≤_};
 ghost use Rattle.schedule.specs.Rows.{AreRows};
 ghost use Rattle.mailbox.specs.Rules.{rules};

@@ -21,11 +21,11 @@ use Rattle.schedule.specs.Draws.{drawOn, runMade}
 use Rattle.schedule.proofs.Made.{drawn-step, drawn-formed}
 use Rattle.rendezvous.specs.declared.Net.{Net}
 use Rattle.rendezvous.specs.Rules.{rules}
+use Rattle.linemap.specs.Openings.{Opening, openingBy, openingOf}
 use Rattle.rendezvous.specs.Opening as meet
 use Rattle.rendezvous.proofs.Laws.{places}
 use Rattle.schedule.proofs.Answers.{answer-made, answer-refused, allowed-parts}
 use Rattle.text.specs.declared.Line.{Line}
-use Rattle.opening.specs.declared.Opening.{Opening}
 use Rattle.opening.specs.Opening.{opening, drawAt, drawsIn}
 use Rattle.program.specs.Output.{stepLine, stepLines, closingLine, lotLines, linesOf}
 use Rattle.program.specs.Writing.{IsLine, Opens, Closes}
@@ -63,11 +63,11 @@ pub record Stands (s : List ℕ) (draws : ℕ) (net : Net) (made : ℕ) : Type 0
 
 -- it starts from the fresh net
 pub stands-first : {s : List ℕ} {m : Map} {draws : ℕ} {net : Net} (verdict : Verdict) → Opens s m draws
-    → meet.openingOf verdict net ≡ meet.opening m
+    → openingOf verdict net ≡ meet.opening m
     → Stands s draws net 0
-unfolding linesOf lotLines linesLeft meet.opening
+unfolding linesOf lotLines linesLeft openingBy
 stands-first {s} {m} {draws} {net} verdict o e =
-    let fresh : net ≡ meet.freshOn m = ap (λ (x : meet.Opening). x .net) e ∙ rw (o .good) in
+    let fresh : net ≡ meet.freshOn m = ap (λ (x : Opening Net). x .net) e ∙ rw (o .good) in
     record { few = omega arith; left = rw (o .opens, fresh, zero-add) }
 
 module _ {s : List ℕ} {draws : ℕ} {net : Net} {made : ℕ} (w : Stands s draws net made) where

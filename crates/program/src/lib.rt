@@ -19,9 +19,6 @@ ghost use Rattle.text.specs.Text.{textOf};
 ghost use Rattle.program.specs.Output.{stepLine, closingLine, linesOf};
 ghost use Rattle.program.specs.Writing.{IsLine, Opens, Closes};
 
-// Room for every line.
-const LINE_ROOM: usize = 80;
-
 // Writes the bytes of a line.
 fn write_text(line: Line, bytes: &[u8])
     requires { ⌜ now bytes ≡ textOf line ⌝ }
@@ -33,7 +30,7 @@ fn write_text(line: Line, bytes: &[u8])
 fn write_line(input: &[u8], i: u16, line: Line)
     requires { ⌜ IsLine (now input) i line ⌝ }
 {
-    let mut bytes = [0u8; LINE_ROOM];
+    let mut bytes = [0u8; text::LINE_ROOM];
     let n = text::put_line(&mut bytes, line);
     write_text(line, &bytes[..n]);
 }

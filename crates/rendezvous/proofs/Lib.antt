@@ -1,6 +1,5 @@
 pub mod Guards
 pub mod RowSets
-pub mod Filling
 pub mod Laws
 pub mod Places
 pub mod FormAfter

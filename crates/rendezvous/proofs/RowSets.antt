@@ -1,5 +1,5 @@
 -- The receivers that the code finds for a kind and a sender are those of the steps allowed: member by member, each guard's tests in another
--- order. Assumes nothing.
+-- order. A sender that is not active has none. Assumes nothing.
 use mathlib.Core.Path.{_≡_, refl, sym, _∙_, ap}
 use mathlib.Core.Bool.{Bool, true, false, not, _&&_, and-true, and-false, and-comm}
 use Prim.Native.Nat.{ℕ, _≤_, _<_, _^_}
@@ -13,12 +13,12 @@ use Rattle.finite.proofs.Cases.{by-bool, by-eq, eqb-self}
 use Rattle.bitset.specs.Set.{member, bitIf, setOf}
 use Rattle.bitset.proofs.Laws.{same-members, member-without, member-empty, without-le}
 use Rattle.bitset.proofs.Selected.{set-lt, set-has, bit-has, bit-lt, member-and}
-use Rattle.aggregate.specs.Aggregate.{rootOf}
 use Rattle.station.specs.declared.Station.{Station}
 use Rattle.station.specs.Events.{asleep, active, maySendStart, mayReport, mayAnswer, ready}
 use Rattle.schedule.specs.Rules.{inRange, allowed}
 use Rattle.schedule.specs.Listing.{step}
 use Rattle.schedule.proofs.Listing.{allowed-low}
+use Rattle.schedule.proofs.RowLists.{report-row}
 use Rattle.rendezvous.specs.declared.Net.{Net}
 use Rattle.rendezvous.specs.Net.{station}
 use Rattle.rendezvous.specs.Figure.{wake, pass, answer, report}
@@ -74,18 +74,9 @@ module _ (net : Net) (j : ℕ) (low : j < net .config .k) (few : net .config .k 
       (λ t. lt-ltb (s .parent) 64 (omega (arith, ltb-true (s .parent) k t)))))
       (λ n. rw (ne-eqb i (s .parent) n, ne-eqb (s .parent) i (λ e. n (sym e))) (simp and-false))
 
-  report-has : (i : ℕ) → member i (bitIf (mayReport (net .config) j s) j) ≡ allowed rules net (step report j i)
-  unfolding mayReport allowed inRange
-  report-has i =
-      let root = rootOf (net .config) in
-      bit-has _ j i
-      ∙ rw (report-guard (net .config) j i s (station net i), lt-ltb j k low, lt-ltb j 64 (omega arith))
-      (by-eq j root
-      (λ (e : j ≡ root). rw (e, eqb-self root)
-      (by-eq i root
-      (λ (f : i ≡ root). rw (f, eqb-self root, lt-ltb root k (rw e at low)) (and-true (ready (station net root))))
-      (λ n. rw (ne-eqb i root n) (simp and-false))))
-      (λ n. rw (ne-eqb j root n) (simp and-false)))
+  reports-are : bitIf (mayReport (net .config) j s) j ≡ setOf k (λ i. allowed rules net (step report j i))
+  unfolding mayReport
+  reports-are = report-row rules net (omega arith) (omega arith) j low few (ready s) (report-guard (net .config) j j s s)
 
   startable-lt : (state : ℕ) → startable j s (inState net state) < 2 ^ 64
   unfolding startable inState
@@ -107,7 +98,7 @@ module _ (net : Net) (j : ℕ) (low : j < net .config .k) (few : net .config .k 
       (λ (e : kind ≡ pass). rw e (startable-has i active ∙ sym (rw (message-range pass i (omega arith) (omega arith), pass-guard (net .config) j i s (station net i)))))
       (λ p. by-eq kind answer
       (λ (e : kind ≡ answer). rw e (answerable-has i ∙ sym (rw (message-range answer i (omega arith) (omega arith), answer-guard (net .config) j i s (station net i)))))
-      (λ a. let e : kind ≡ report = omega arith in rw e (report-has i))))
+      (λ a. let e : kind ≡ report = omega arith in rw e (ap (member i) reports-are ∙ set-has k _ i ∙ allowed-low rules net (step report j i)))))
 
   receivers-lt : (kind : ℕ) → receiversOf (net .config) kind j s (statesOf net) < 2 ^ 64
   unfolding receiversOf
@@ -123,3 +114,17 @@ module _ (net : Net) (j : ℕ) (low : j < net .config .k) (few : net .config .k 
   receivers-are kind h l =
       same-members 64 _ _ (receivers-lt kind) (lt-of-lt-of-le (set-lt k _) (pow-mono few))
       (λ i m. receivers-have kind i h l ∙ sym (set-has k _ i ∙ allowed-low rules net (step kind j i)))
+
+-- the receivers of a kind from station s
+abbrev pub found : Net → ℕ → ℕ → ℕ
+found net kind s = receiversOf (net .config) kind s (station net s) (statesOf net)
+
+-- a sender that is not active
+pub idle-found : (net : Net) (s : ℕ) → (station net s .state ≡ active → ⊥) → (kind : ℕ) → found net kind s ≡ 0
+unfolding receiversOf startable answerable mayAnswer mayReport ready bitIf
+idle-found net s idle kind =
+    rw (ne-eqb (station net s .state) active idle)
+    (by-bool (eqb kind wake) (λ e. rw e)
+    (λ w. by-bool (eqb kind pass) (λ e. rw (w, e))
+    (λ p. by-bool (eqb kind answer) (λ e. rw (w, p, e) (simp and-false))
+    (λ a. by-bool (eqb kind report) (λ e. rw (w, p, a, e) (simp and-false)) (λ e. rw (w, p, a, e))))))

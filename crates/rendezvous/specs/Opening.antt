@@ -1,21 +1,11 @@
--- Opening a net on a line map that is handed over: "3, 7 to 10" (document 01, "Causes and numbers"), else the fresh net.
-use mathlib.Core.Bool.{cond}
-use mathlib.Core.List.{List}
-use Prim.Native.Nat.{ℕ}
+-- The fresh net of a line map, and opening a net on one (document 01, "Stations that meet").
 use lib.ListN.{replicate}
-use Rattle.topology.specs.declared.Verdict.{Verdict}
-use Rattle.topology.specs.Answer.{isAccepted}
-use Rattle.topology.specs.Acceptance.{verdictNumbers}
 use Rattle.linemap.specs.declared.Map.{Map}
-use Rattle.linemap.specs.Maps.{configOf, acceptance}
+use Rattle.linemap.specs.Maps.{configOf}
+use Rattle.linemap.specs.Openings.{Opening, openingBy}
 use Rattle.stations.specs.Stations.{blank}
 use Rattle.rendezvous.specs.declared.Net.{Net}
 use Rattle.rendezvous.specs.Net.{freshNet}
-
--- the number with its values, 0 where the map is accepted, and the net
-pub record Opening : Type 0 where
-  pub numbers : List ℕ
-  pub net : Net
 
 -- "Fresh: .." (Stations that meet), of the map's counts and neighbours
 abbrev pub freshOn : Map → Net
@@ -25,10 +15,6 @@ freshOn m = freshNet (configOf m) (m .counts) (m .neighbours)
 abbrev pub unopened : Net
 unopened = record { config = record { k = 0 }; stations = replicate 64 blank }
 
--- an accepted map opens its fresh net, and a refused one opens none
-unfoldable pub opening : Map → Opening
-opening m = record { numbers = acceptance m; net = cond (isAccepted (acceptance m)) (freshOn m) unopened }
-
--- what a verdict and the net beside it come to
-abbrev pub openingOf : Verdict → Net → Opening
-openingOf verdict net = record { numbers = verdictNumbers verdict; net = net }
+-- "a map handed over goes 3, 7 to 10" (Causes and numbers)
+abbrev pub opening : Map → Opening Net
+opening m = openingBy freshOn unopened m

@@ -10,6 +10,7 @@ use station::Station;
 use topology::Verdict;
 ghost use mathlib.Core.Path.{_≡_};
 ghost use mathlib.Core.Bool.{true};
+ghost use Rattle.linemap.specs.Openings.{openingOf};
 ghost use Rattle.schedule.specs.Rules.{allowed};
 ghost use Rattle.schedule.specs.Outcome.{accepted, refused, outcomeOf, runOutcomeOf};
 ghost use Rattle.schedule.specs.Draws.{stepOn, drawOn, stopped, runOn};
@@ -73,7 +74,7 @@ fn unopened() -> Net
 
 // The fresh net of an accepted map; any other opens none.
 pub fn fresh(m: Map) -> Opened
-    ensures { λ r. ⌜ Opening.openingOf (r .verdict) (r .net) ≡ Opening.opening m ⌝ }
+    ensures { λ r. ⌜ openingOf (r .verdict) (r .net) ≡ Opening.opening m ⌝ }
 {
     let verdict = linemap::accept(m);
     if let Verdict::Refused(fault) = verdict {
@@ -199,9 +200,10 @@ pub fn run(net: Net, draws: &[u16]) -> Ran
         let Drawn::Step(step) = drawn else {
             break;
         };
-        here = figure::apply(here, step);
+        let next = figure::apply(here, step);
+        let receiver = next.stations[step.receiver as usize];
+        here = next;
         made += 1;
-        let receiver = here.stations[step.receiver as usize];
         let held = receiver.held;
         if !aggregate::is_bounded(here.config, held) {
             break;

@@ -8,4 +8,5 @@ pub mod Picks
 pub mod Outcomes
 pub mod Running
 pub mod Drawing
+pub mod Filling
 pub mod Answers

@@ -1,22 +1,26 @@
 -- Rows list the steps that a net allows: a row has as many steps as its set has members, and the rows of a net's allowed steps, row by row,
--- are its list. Assumes nothing.
+-- are its list. The row of the reports is the same for every kind of net. Assumes nothing.
 use mathlib.Core.Path.{_≡_, refl, sym, _∙_, ap, ap₂}
-use mathlib.Core.Bool.{Bool, false}
+use mathlib.Core.Bool.{Bool, false, _&&_, and-true, and-false}
 use mathlib.Core.List.{List, _++_, map, flatMap}
 use Prim.Native.Nat.{ℕ, zero, suc, _+_, _-_, _*_, _^_, _≤_, _<_}
-use native.Mathlib.Nat.{add-zero, zero-add, le-trans, mul-le-mul-left, mul-le-mul-right}
+use native.Mathlib.Nat.{add-zero, zero-add, le-trans, lt-of-lt-of-le, mul-le-mul-left, mul-le-mul-right}
 use native.Mathlib.Omega.{arith}
 use lib.ListN.{length}
-use Rattle.finite.proofs.Cases.{by-bool}
+use lib.Dec.{eqb}
+use lib.Pow.{pow-mono}
+use borrow.Author.Tests.{eq-eqb, ne-eqb, le-leb, lt-ltb}
+use Rattle.finite.proofs.Cases.{by-bool, by-eq, eqb-self}
 use Rattle.finite.specs.Sum.{addition, sumTo, indicator}
 use Rattle.finite.proofs.Sums.{sum-ext, sum-first}
-use Rattle.bitset.specs.Set.{member, size, setOf}
-use Rattle.bitset.proofs.Laws.{size-sum, no-member-from}
-use Rattle.bitset.proofs.Selected.{set-lt, set-member}
+use Rattle.bitset.specs.Set.{member, size, bitIf, setOf}
+use Rattle.bitset.proofs.Laws.{size-sum, no-member-from, same-members}
+use Rattle.bitset.proofs.Selected.{set-lt, set-member, set-has, bit-has, bit-lt}
 use Rattle.schedule.specs.declared.Step.{Step}
-use Rattle.schedule.specs.Rules.{Rules, allowed}
+use Rattle.schedule.specs.Rules.{Rules, inRange, allowed}
 use Rattle.schedule.specs.Listing.{count, range, keepIf, select, step, listed}
 use Rattle.schedule.specs.Rows.{stepsFrom, stepsOfKind, stepsOf, rowAt, inRows, listedIn, AreRows}
+use Rattle.schedule.proofs.Listing.{allowed-low}
 use Rattle.schedule.proofs.Parts.{select-append, candidates-are, length-select, length-stepsOf}
 
 -- how many of n steps pass a test
@@ -87,6 +91,27 @@ module _ {Net : Type 0} (R : Rules Net) (net : Net) (rows : List ℕ) (are : Are
       select-flat (inRows rows) (allowed R net) _ _ 1 _ (λ kind h l.
       select-flat (inRows rows) (allowed R net) _ _ 0 _ (λ s a b. row-lists kind s h (omega arith) (omega arith)))
       ∙ sym (ap (select (allowed R net)) (candidates-are (R .kinds) k))
+
+-- The row of the reports of station s, which is empty but for the root: `ready` is the guard of the root's own report.
+module _ {Net : Type 0} (R : Rules Net) (net : Net) (low : 1 ≤ R .reports) (high : R .reports ≤ R .kinds) (s : ℕ) (below : s < R .stations net)
+    (few : R .stations net ≤ 64) (ready : Bool) (guarded : R .guard net (step (R .reports) s s) ≡ ready) where
+  report-has : (r : ℕ) → member r (bitIf (eqb s (R .root net) && ready) s) ≡ allowed R net (step (R .reports) s r)
+  unfolding allowed inRange
+  report-has r =
+      let root = R .root net in
+      bit-has (eqb s root && ready) s r
+      ∙ rw (lt-ltb s 64 (omega arith), le-leb 1 (R .reports) low, le-leb (R .reports) (R .kinds) high, lt-ltb s (R .stations net) below, eqb-self (R .reports))
+      (by-eq s root
+      (λ (e : s ≡ root). rw (eq-eqb s root e)
+      (by-eq r s
+      (λ (q : r ≡ s). rw (q, eqb-self s, lt-ltb s (R .stations net) below, eq-eqb s root e, guarded) (and-true ready))
+      (λ n. rw (ne-eqb r s n, ne-eqb r root (λ q. n (q ∙ sym e))) (simp and-false))))
+      (λ n. rw (ne-eqb s root n) (simp and-false)))
+
+  pub report-row : bitIf (eqb s (R .root net) && ready) s ≡ setOf (R .stations net) (λ r. allowed R net (step (R .reports) s r))
+  report-row =
+      same-members 64 _ _ (bit-lt (eqb s (R .root net) && ready) s) (lt-of-lt-of-le (set-lt (R .stations net) _) (pow-mono few))
+      (λ r l. report-has r ∙ sym (set-has (R .stations net) _ r ∙ allowed-low R net (step (R .reports) s r)))
 
 -- no rows list so many steps
 pub listed-few : (rows : List ℕ) (kinds k : ℕ) → kinds ≤ 255 → k ≤ 255 → length (listedIn rows kinds k) ≤ 255 * (255 * 64)

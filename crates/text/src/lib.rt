@@ -19,7 +19,8 @@ pub enum Line {
     RefusedStation(u8, u8),
 }
 
-const LINE_ROOM: usize = 80;
+// Room for every line.
+pub const LINE_ROOM: usize = 80;
 
 const MOST_DIGITS: u8 = 20;
 

@@ -5,7 +5,7 @@ use Rattle.topology.specs.Answer as answer
 use Rattle.topology.specs.Acceptance.{faultNumbers, verdictNumbers}
 use Rattle.topology.proofs.Answers.{fault-refuses}
 use Rattle.linemap.specs.Maps.{acceptance}
-use Rattle.mailbox.specs.Opening.{opening}
+use Rattle.linemap.specs.Openings.{openingBy}
 use Rattle.mailbox.proofs.Laws.{root-low}
 use Rattle.mailbox.proofs.fresh.Statement.{statement}
 use Rattle.mailbox.proofs.fresh.Tie as tie
@@ -24,7 +24,7 @@ unopened-requires : tie.Need-unopened-requires
 unopened-requires c κs = search needs
 
 returns : tie.Need-returns
-unfolding opening
+unfolding openingBy
 returns c =
     let fault = c .before .before .verdict .given .0 .0 in
     let numbers : acceptance (c .before .before .before .before .before .args .m) ≡ faultNumbers fault =
@@ -41,7 +41,7 @@ fresh-net-requires : tie.Need-fresh-net-requires
 fresh-net-requires c κs = rw (c .before .before .config .ensures) (root-low (c .before .before .before .before .before .before .args .m) (numbers (c .before .before .before)))
 
 returns-2 : tie.Need-returns-2
-unfolding opening
+unfolding openingBy
 returns-2 c = rw (numbers (c .before .before .before .before), c .fresh-net .ensures, c .before .before .before .config .ensures)
 
 pub fresh-spec : {M : Type 1} → statement M

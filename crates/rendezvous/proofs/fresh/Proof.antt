@@ -5,8 +5,8 @@ use Rattle.topology.specs.Acceptance.{faultNumbers, verdictNumbers}
 use Rattle.topology.specs.Answer as answer
 use Rattle.topology.proofs.Answers.{fault-refuses}
 use Rattle.linemap.specs.Maps.{acceptance}
+use Rattle.linemap.specs.Openings.{openingBy}
 use Rattle.rendezvous.specs.Net.{freshNet}
-use Rattle.rendezvous.specs.Opening.{opening}
 use Rattle.rendezvous.proofs.fresh.Statement.{statement}
 use Rattle.rendezvous.proofs.fresh.Tie as tie
 
@@ -20,7 +20,7 @@ unopened-requires : tie.Need-unopened-requires
 unopened-requires c κs = search needs
 
 returns : tie.Need-returns
-unfolding opening
+unfolding openingBy
 returns c =
     let fault = c .before .before .verdict .given .0 .0 in
     let numbers : acceptance (c .before .before .before .before .before .args .m) ≡ faultNumbers fault =
@@ -37,7 +37,7 @@ fresh-stations-requires : tie.Need-fresh-stations-requires
 fresh-stations-requires c κs = search needs
 
 returns-2 : tie.Need-returns-2
-unfolding opening freshNet
+unfolding openingBy freshNet
 returns-2 c =
     let numbers : acceptance (c .before .before .before .before .before .before .before .args .m) ≡ answer.accepted =
     sym (c .before .before .before .before .before .before .accept .ensures) ∙ ap verdictNumbers (c .before .before .before .before .enum-told .given .1) in

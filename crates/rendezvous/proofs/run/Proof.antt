@@ -1,6 +1,6 @@
 -- `rendezvous::run` meets its contract. Invariant: the net reached is well-formed, and the run is one from it, after the steps made, by the
 -- draws that are left. Assumes nothing.
-use mathlib.Core.Path.{_≡_, sym, _∙_, ap}
+use mathlib.Core.Path.{sym, _∙_, ap}
 use mathlib.Core.Logic.{⊎-elim}
 use Prim.Native.Nat.{_-_}
 use lib.ListN.{length}
@@ -95,7 +95,7 @@ loop-less c = search needs
 loop-again : tie.Need-loop-again Inv-loop μ-loop
 loop-again c =
     let bound = c .before in
-    let apply = bound .before .before .before .before .before in
+    let apply = bound .before .before .before .before in
     let pick = apply .before .before .before .before in
     let rows = pick .before .before .before in
     let l = rows .before .before .loop in
@@ -121,12 +121,12 @@ returns-2 c =
     (λ w. rw (w .1, w .2) (ends-used-up rules (l .inv) (w .0 .left)))
     (⊎-elim
     (λ w. rw (w .7, w .8) (ends-refused rules (l .inv) (w .0 .taken) NothingAllowed (drawn-nothing rules (l .here) _ f few (w .1 .ensures) (w .4 .ensures) (w .6 .given .1))))
-    (λ w. rw (w .15, w .16)
+    (λ w. rw (w .14, w .15)
     (ends-unformed rules (l .inv) (w .0 .taken)
     (drawn-accepted rules (l .here) _ f few (w .1 .ensures) (w .4 .ensures) (w .6 .given .1) ∙ ap (accepted _) (sym (w .8 .ensures)))
     (next-formed (l .here) _ f (drawn-allowed rules (l .here) _ f few (w .1 .ensures) (w .4 .ensures) (w .6 .given .1)) (w .8 .ensures)
-    ∙ sym (w .13 .ensures)
-    ∙ not-true _ (w .14 .taken)))))
+    ∙ sym (w .12 .ensures)
+    ∙ not-true _ (w .13 .taken)))))
     (c .before .loop-test .came))
 
 pub run-spec : {M : Type 1} → statement M
@@ -147,10 +147,10 @@ run-spec =
     enum-known-drawn
     enum-told
     apply-requires
-    add-made
     cast-receiver
     mul-receiver
     element-copy-out-receiver
+    add-made
     is-bounded-requires
     loop-less
     loop-again

@@ -4,7 +4,8 @@ use mathlib.Core.Path.{sym, ap, _∙_}
 use borrow.Author.Needs.{needs}
 use Rattle.topology.specs.Acceptance.{faultNumbers, verdictNumbers}
 use Rattle.topology.proofs.Answers.{fault-refuses}
-use Rattle.mailbox.specs.Opening.{Opening}
+use Rattle.linemap.specs.Openings.{Opening}
+use Rattle.mailbox.specs.declared.Net.{Net}
 use Rattle.capi.specs.Mailbox.{imageOf}
 use Rattle.capi.proofs.Calls.{refused-leaves, accepted-replaces}
 use Rattle.capi.proofs.mailbox_net.fresh.Statement.{statement}
@@ -23,7 +24,7 @@ returns : tie.Need-returns
 returns c =
     let why = c .before .before .verdict .given in
     refused-leaves _ _ _ (faultNumbers (why .0 .0)) _
-    (sym (ap verdictNumbers (why .1)) ∙ ap (λ (o : Opening). o .numbers) (c .before .before .before .before .fresh .ensures))
+    (sym (ap verdictNumbers (why .1)) ∙ ap (λ (o : Opening Net). o .numbers) (c .before .before .before .before .fresh .ensures))
     (fault-refuses (why .0 .0)) (c .fault .ensures)
 
 enum-told : tie.Need-enum-told
@@ -35,8 +36,8 @@ image-of-requires c κs = search needs
 returns-2 : tie.Need-returns-2
 returns-2 c =
     let opened = c .before .before .before .before .fresh .ensures in
-    accepted-replaces _ _ _ _ (sym (ap verdictNumbers (c .before .before .enum-told .given .1)) ∙ ap (λ (o : Opening). o .numbers) opened)
-    (c .image-of .ensures ∙ ap (λ (o : Opening). imageOf (o .net)) opened)
+    accepted-replaces _ _ _ _ (sym (ap verdictNumbers (c .before .before .enum-told .given .1)) ∙ ap (λ (o : Opening Net). o .numbers) opened)
+    (c .image-of .ensures ∙ ap (λ (o : Opening Net). imageOf (o .net)) opened)
 
 pub fresh-spec : {M : Type 1} → statement M
 fresh-spec =

@@ -28,7 +28,8 @@ home-low c =
     let a = start .args in
     let p = start .pre in
     let parent : station (a .net) (a .to) .parent < 64 = omega (arith, formed-at (a .net) (p .0) (a .to) (p .1 .1 .0) .parent-below, k-most (a .net) (p .0)) in
-    rw (c .take .ensures) (taken-parent (λ (p : ℕ). p < 64) (a .net .config) (a .from) (boxAt (a .net .boxes) (a .from) (a .to)) (station (a .net) (a .to)) (low start .0) parent)
+    rw (c .take .ensures)
+    (taken-parent (λ (p : ℕ). p < 64) (a .net .config) (a .from) (boxAt (a .net .boxes) (a .from) (a .to)) (station (a .net) (a .to)) (low start .0) parent)
 
 -- where the ways meet, the mailboxes are those after the message is taken
 emptied-and-started : (c : tie.Joined1) → let a = c .before .before .before .before .before .before .before .args in
@@ -124,9 +125,12 @@ returns c =
     let took = meet .before .before .before in
     let a = took .before .before .before .before .args in
     let s = took .take .result in
-    let must : mustAnswer (a .net .config) (a .to) s ≡ true = sym (c .before .before .before .before .before .must-answer .ensures) ∙ c .before .before .before .before .if2 .taken in
+    let test = c .before .before .before .before in
+    let must : mustAnswer (a .net .config) (a .to) s ≡ true = sym (test .before .must-answer .ensures) ∙ test .if2 .taken in
+    let answers : Net → Net =
+    λ n. record { config = n .config; stations = set (n .stations) (a .to) (ended s); boxes = posted (n .boxes) (a .to) (s .parent) (Answer (s .held)) } in
     rw (c .ended .ensures, c .before .answer .ensures)
-    (ap (λ (n : Net). record { config = n .config; stations = set (n .stations) (a .to) (ended s); boxes = posted (n .boxes) (a .to) (s .parent) (Answer (s .held)) }) (emptied-and-started meet)
+    (ap answers (emptied-and-started meet)
     ∙ rw (sym (took .take .ensures), must))
 
 mul-s : tie.Need-mul-s

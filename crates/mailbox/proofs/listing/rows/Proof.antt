@@ -1,13 +1,14 @@
 -- `mailbox::listing::rows` meets its contract. The invariants: the rows of the senders passed are filled, and of this one's receivers those
 -- passed are in the set. Assumes nothing.
 use mathlib.Core.Path.{_≡_, refl}
-use Prim.Native.Nat.{_+_, _-_, _≤_, _<_, _^_}
+use Prim.Native.Nat.{_+_, _-_, _*_, _≤_, _<_, _^_}
 use native.Mathlib.Omega.{arith}
 use borrow.Author.Needs.{needs}
 use Rattle.bitset.specs.Set.{setOf}
 use Rattle.bitset.proofs.Selected.{set-next}
-use Rattle.mailbox.proofs.RowSets.{delivers}
-use Rattle.mailbox.proofs.Filling.{Filled, filled-none, filled-stored, rows-filled}
+use Rattle.schedule.proofs.Filling.{Filled, filled-none, filled-two, filled-rows}
+use Rattle.mailbox.specs.Rules.{rules}
+use Rattle.mailbox.proofs.RowSets.{delivers, found, found-are}
 use Rattle.mailbox.proofs.listing.rows.Statement.{statement}
 use Rattle.mailbox.proofs.listing.rows.Tie as tie
 
@@ -18,7 +19,7 @@ abbrev μ-loop2 : tie.MeasureT-loop2
 μ-loop2 net k root rows sender receivers₀ receiver₀ receivers receiver = k - receiver
 
 abbrev Inv-loop : tie.InvT-loop
-Inv-loop net k root rows₀ sender₀ rows sender = (sender ≤ k) × Filled net sender rows
+Inv-loop net k root rows₀ sender₀ rows sender = (sender ≤ k) × Filled (found net) (4 * sender) rows
 
 abbrev μ-loop : tie.MeasureT-loop
 μ-loop net k root rows₀ sender₀ rows sender = k - sender
@@ -27,7 +28,7 @@ root-requires : tie.Need-root-requires Inv-loop2 μ-loop2 Inv-loop μ-loop
 root-requires c κs = search needs
 
 loop-holds : tie.Need-loop-holds Inv-loop2 μ-loop2 Inv-loop μ-loop
-loop-holds c = (omega arith, filled-none _ _ refl)
+loop-holds c = (omega arith, filled-none (found _))
 
 loop2-holds : tie.Need-loop2-holds Inv-loop2 μ-loop2 Inv-loop μ-loop
 unfolding setOf
@@ -67,8 +68,11 @@ bit-if-requires : tie.Need-bit-if-requires Inv-loop2 μ-loop2 Inv-loop μ-loop
 bit-if-requires c κs = search needs
 
 -- a turn adds the receiver, if what is in its mailbox may be delivered
-receiver-next : (c : tie.After-bit-if Inv-loop2 μ-loop2 Inv-loop μ-loop) → let at = c .before .before .before .before .before in let out = at .before .before in
-    (at .loop2 .receivers + c .bit-if .result ≡ setOf (at .loop2 .receiver + 1) (delivers (out .before .before .before .args .t1) (out .loop .sender))) × (at .loop2 .receivers + c .bit-if .result < 2 ^ 64)
+receiver-next : (c : tie.After-bit-if Inv-loop2 μ-loop2 Inv-loop μ-loop)
+    → let at = c .before .before .before .before .before in
+    let out = at .before .before in
+    let sum = at .loop2 .receivers + c .bit-if .result in
+    (sum ≡ setOf (at .loop2 .receiver + 1) (delivers (out .before .before .before .args .t1) (out .loop .sender))) × (sum < 2 ^ 64)
 receiver-next c =
     let at = c .before .before .before .before .before in
     set-next _ (at .loop2 .receiver) (omega arith) (at .loop2 .inv .1) (rw (c .before .may-deliver .ensures) at (c .bit-if .ensures))
@@ -128,22 +132,25 @@ loop-less : tie.Need-loop-less Inv-loop2 μ-loop2 Inv-loop μ-loop
 loop-less c = omega arith
 
 loop-again : tie.Need-loop-again Inv-loop2 μ-loop2 Inv-loop μ-loop
+unfolding found
 loop-again c =
     let inner = c .before .before .before .before in
     let l = inner .before .before .loop in
     let start = inner .before .before .before .before .before in
-    let all : inner .loop2 .receiver ≡ start .args .t1 .config .k = omega arith in (
+    let net = start .args .t1 in
+    let all : inner .loop2 .receiver ≡ net .config .k = omega arith in (
       omega arith,
-      filled-stored (start .args .t1) (l .sender) (l .rows) (l .inv .1) (omega arith) _ _ (rw all at (inner .loop2 .inv .1))
-          (rw (c .before .may-report .ensures, inner .before .before .before .root .ensures) at (c .bit-if2 .ensures)),
+      filled-two (found net) (l .sender) (l .inv .1) (omega arith) (rw all at (inner .loop2 .inv .1))
+          (rw (c .before .may-report .ensures, inner .before .before .before .root .ensures) at (c .bit-if2 .ensures)) refl refl,
     )
 
 returns : tie.Need-returns Inv-loop2 μ-loop2 Inv-loop μ-loop
 returns c =
     let l = c .before .loop in
     let start = c .before .before .before .before in
-    let all : l .sender ≡ start .args .t1 .config .k = omega arith in
-    rows-filled (start .args .t1) (l .rows) (start .pre) (rw all at (l .inv .1))
+    let net = start .args .t1 in
+    let all : l .sender ≡ net .config .k = omega arith in
+    filled-rows (found net) rules net (omega arith) (found-are net (start .pre)) (rw all at (l .inv .1))
 
 pub rows-spec : {M : Type 1} → statement M
 rows-spec =

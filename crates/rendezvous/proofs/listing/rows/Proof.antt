@@ -1,17 +1,19 @@
 -- `rendezvous::listing::rows` meets its contract. Invariant: the rows of the senders below `sender` are filled. Assumes nothing.
 use mathlib.Core.Path.{_≡_, _∙_, ap}
 use mathlib.Core.Logic.{⊎-elim}
-use Prim.Native.Nat.{_-_, _≤_}
+use Prim.Native.Nat.{_-_, _*_, _≤_}
 use native.Mathlib.Omega.{arith}
 use borrow.Author.Needs.{needs}
+use Rattle.schedule.proofs.Filling.{Filled, filled-none, filled-idle, filled-four, filled-rows}
 use Rattle.rendezvous.specs.Figure.{wake, pass, answer, report}
 use Rattle.rendezvous.specs.Receivers.{receiversOf}
-use Rattle.rendezvous.proofs.Filling.{Filled, filled-none, filled-idle, filled-stored, rows-filled}
+use Rattle.rendezvous.specs.Rules.{rules}
+use Rattle.rendezvous.proofs.RowSets.{found, idle-found, receivers-are}
 use Rattle.rendezvous.proofs.listing.rows.Statement.{statement}
 use Rattle.rendezvous.proofs.listing.rows.Tie as tie
 
 abbrev Inv-loop : tie.InvT-loop
-Inv-loop net t k states rows₀ sender₀ rows sender = (sender ≤ k) × Filled net sender rows
+Inv-loop net t k states rows₀ sender₀ rows sender = (sender ≤ k) × Filled (found net) (4 * sender) rows
 
 abbrev μ-loop : tie.MeasureT-loop
 μ-loop net t k states rows₀ sender₀ rows sender = k - sender
@@ -91,15 +93,16 @@ loop-less c = search needs
 loop-again : tie.Need-loop-again Inv-loop μ-loop
 loop-again c =
     let l = c .before .before .before .before .loop in
+    let net = c .before .before .before .before .before .before .before .args .t1 in
     let fresh = c .before .before .before .before .before .by-state .ensures in (
       omega arith,
       ⊎-elim
-          (λ w. rw (w .5) (filled-stored _ (l .sender) (l .rows) (l .inv .1) (omega arith) _ _ _ _
+          (λ w. rw (w .5) (filled-four (found net) (l .sender) (l .inv .1) (omega arith)
           (w .1 .ensures ∙ ap (receiversOf _ wake (l .sender) _) fresh)
           (w .2 .ensures ∙ ap (receiversOf _ pass (l .sender) _) fresh)
           (w .3 .ensures ∙ ap (receiversOf _ answer (l .sender) _) fresh)
           (w .4 .ensures ∙ ap (receiversOf _ report (l .sender) _) fresh)))
-          (λ w. rw (w .1) (filled-idle _ (l .sender) (l .rows) (l .inv .1) (w .0 .left)))
+          (λ w. rw (w .1) (filled-idle (found net) (l .sender) (l .inv .1) (idle-found net (l .sender) (w .0 .left))))
           (c .if1 .came),
     )
 
@@ -107,8 +110,9 @@ returns : tie.Need-returns Inv-loop μ-loop
 returns c =
     let l = c .before .loop in
     let start = c .before .before .before .before in
-    let all : l .sender ≡ start .args .t1 .config .k = omega arith in
-    rows-filled (start .args .t1) (l .rows) (start .pre) (rw all at (l .inv .1))
+    let net = start .args .t1 in
+    let all : l .sender ≡ net .config .k = omega arith in
+    filled-rows (found net) rules net (omega arith) (λ kind s h m low. receivers-are net s low (start .pre) kind h m) (rw all at (l .inv .1))
 
 pub rows-spec : {M : Type 1} → statement M
 rows-spec =
