@@ -9,10 +9,12 @@ abbrev pub packed : List ℕ → ℕ
 packed [] = 0
 packed (v ∷ vs) = v + 256 * packed vs
 
+-- what a call comes to: its answer, and what it leaves in what it was lent (Causes and numbers, "Returned", "Left as it was")
 pub record Called (Answer Lent : Type 0) : Type 0 where
   pub answer : Answer
   pub left : Lent
 
+-- the two together
 abbrev pub called : {Answer Lent : Type 0} → Answer → Lent → Called Answer Lent
 called a x = record { answer = a; left = x }
 

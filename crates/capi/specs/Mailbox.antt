@@ -30,10 +30,12 @@ abbrev pub messageLetter : Message → Letter
 messageLetter Start = record { content = 1; held = nothing }
 messageLetter (Answer v) = record { content = 2; held = v }
 
+-- an empty mailbox, or the letter of what it holds
 abbrev pub mailboxLetter : Mailbox → Letter
 mailboxLetter Empty = record { content = 0; held = nothing }
 mailboxLetter (Full m) = messageLetter m
 
+-- the letter of a place
 abbrev pub letterOf : Slot → Letter
 letterOf s = mailboxLetter (s .content)
 
@@ -52,6 +54,7 @@ isLetter l = leb (l .content) 2 && (eqb (l .content) 2 || eqb (sumOf (l .held)) 
 abbrev pub slotAt : Net → ℕ → Slot
 slotAt net i = getD (net .boxes) i (slots.slotOf Empty)
 
+-- the letter at a place of an image
 abbrev pub letterAt : Image → ℕ → Letter
 letterAt w i = getD (w .boxes) i (record { content = 0; held = absent })
 
@@ -59,6 +62,7 @@ letterAt w i = getD (w .boxes) i (record { content = 0; held = absent })
 unfoldable pub imageOf : Net → Image
 imageOf net = record { config = net .config; stations = net .stations; boxes = tabulate 4096 (λ i. letterOf (slotAt net i)) }
 
+-- the net of an image: mailbox by mailbox
 unfoldable pub netOf : Image → Net
 netOf w = record { config = w .config; stations = w .stations; boxes = tabulate 4096 (λ i. slotOf (letterAt w i)) }
 
@@ -80,9 +84,11 @@ imaged c = called (c .answer) (imageOf (c .left))
 unfoldable pub onImage : {X : Type 0} → X → Image → (Net → Called X Net) → Called X Image
 onImage refused w call = cond (isImage w) (imaged (call (netOf w))) (called refused w)
 
+-- a step or a draw on an image
 abbrev pub stepOnImage : Image → (Net → Outcome Net) → Called ℕ Image
 stepOnImage w call = onImage (numberOf OutOfForm) w (λ net. stepCall (call net))
 
+-- a run on an image; where there is no net it makes no step
 abbrev pub runOnImage : Image → (Net → RunOutcome Net) → Called Run Image
 runOnImage w call = onImage (runOf (numberOf OutOfForm) 0 false) w (λ net. runCall (call net))
 

@@ -6,6 +6,7 @@ use Rattle.station.specs.declared.Process.{Process}
 use Rattle.station.specs.Process.{Outcome}
 use Rattle.capi.specs.Answers.{packed, Called, called}
 
+-- an event (One station): its number and values, packed, and the process that it leaves
 abbrev pub eventCall : Outcome → Called ℕ Process
 eventCall o = called (packed (o .number ∷ o .values)) (o .process)
 

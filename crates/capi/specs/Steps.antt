@@ -17,6 +17,7 @@ abbrev pub stepValues : List Step → List ℕ
 stepValues [] = []
 stepValues (s ∷ l) = s .kind ∷ s .sender ∷ s .receiver ∷ []
 
+-- a step or a draw: its number and the step made, packed, and the net that it leaves
 abbrev pub stepCall : {Net : Type 0} → Outcome Net → Called ℕ Net
 stepCall o = called (packed (o .number ∷ stepValues (o .made))) (o .net)
 
@@ -28,5 +29,6 @@ answerNumbers a = outcomeOf {Net = Unit {0}} a tt .number ∷ stepValues (outcom
 abbrev pub runOf : ℕ → ℕ → Bool → Run
 runOf number steps rest = record { answer = packed (number ∷ cond rest 1 0 ∷ []); steps = steps }
 
+-- a run: its answer, and the net that it reached
 abbrev pub runCall : {Net : Type 0} → RunOutcome Net → Called Run Net
 runCall o = called (runOf (o .number) (o .steps) (o .rest)) (o .net)

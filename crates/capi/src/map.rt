@@ -24,13 +24,13 @@ pub struct Answered {
 }
 
 // A number and its value.
-pub fn with_value(number: u8, value: u32) -> u64
+pub(crate) fn with_value(number: u8, value: u32) -> u64
     ensures { λ r. ⌜ r ≡ packed (number ∷ value ∷ []) ⌝ }
 {
     number as u64 + 256 * (value as u64)
 }
 
-pub fn fault(why: Fault) -> u64
+pub(crate) fn fault(why: Fault) -> u64
     ensures { λ r. ⌜ r ≡ packed (faultNumbers why) ⌝ }
 {
     match why {
@@ -42,7 +42,7 @@ pub fn fault(why: Fault) -> u64
     }
 }
 
-pub fn verdict(answer: Verdict) -> u64
+pub(crate) fn verdict(answer: Verdict) -> u64
     ensures { λ r. ⌜ r ≡ packed (verdictNumbers answer) ⌝ }
 {
     match answer {

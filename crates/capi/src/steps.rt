@@ -15,7 +15,7 @@ pub struct Run {
 }
 
 // The number of a step's or a draw's answer, with the step made.
-pub fn number(answer: Answer) -> u64
+pub(crate) fn number(answer: Answer) -> u64
     ensures { λ r. ⌜ r ≡ packed (answerNumbers answer) ⌝ }
 {
     match answer {
@@ -40,7 +40,7 @@ fn bit(b: bool) -> u32
     if b { 1 } else { 0 }
 }
 
-pub fn run_answer(answer: RunAnswer, steps: usize, at_rest: bool) -> Run
+pub(crate) fn run_answer(answer: RunAnswer, steps: usize, at_rest: bool) -> Run
     ensures { λ r. ⌜ r ≡ runOf (runNumberOf answer) steps «at_rest» ⌝ }
 {
     Run {

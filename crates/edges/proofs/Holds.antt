@@ -1,7 +1,6 @@
 -- The rules give every row of the table: antt computes them. Assumes nothing.
 use mathlib.Core.Path.{_≡_, refl}
-use mathlib.Core.List.{List, map, flatMap}
-use Prim.Native.Nat.{ℕ}
+use mathlib.Core.List.{map, flatMap}
 use Rattle.finite.specs.Below.{allBelow, tabulate}
 use Rattle.finite.specs.Sum.{sumTo, indicator}
 use Rattle.wave.specs.Graph.{links}
@@ -16,7 +15,7 @@ use Rattle.station.specs.Form as form
 use Rattle.schedule.specs.Rules.{inRange, allowed}
 use Rattle.schedule.specs.Listing.{range, keepIf, select, candidates, listed}
 use Rattle.schedule.specs.Listing as listing
-use Rattle.schedule.specs.Draws.{stepOn, drawFrom, drawOn, runMade, runNet, stopped, runOn}
+use Rattle.schedule.specs.Draws.{stepOn, picked, drawOn, runMade, runNet, stopped, runOn}
 use Rattle.stations.specs.Stations.{areWellFormed, freshStation, freshStations}
 use Rattle.rendezvous.specs.Net.{wellFormed, freshNet}
 use Rattle.rendezvous.specs.Figure.{mayStep, applied}
@@ -28,7 +27,7 @@ use Rattle.edges.specs.Table.{Row, outcome, table}
 pub table-holds : map (λ (r : Row). outcome (r .given)) table ≡ map (λ (r : Row). r .expected) table
 unfolding allBelow tabulate sumTo indicator links member size without within bitset.count rootOf valid bounded nothing gathered
     joined anyBelow near firstFrom verdictOf number bytes sumWords each rowBytes trailerBytes bodyOf checkWord storedOf
-    column reading form.wellFormed inRange allowed range keepIf select candidates listed listing.count stepOn drawFrom
+    column reading form.wellFormed inRange allowed range keepIf select candidates listed listing.count stepOn picked
     drawOn runMade runNet stopped runOn areWellFormed freshStation freshStations wellFormed freshNet mayStep applied
     digits item aggregateText textOf opening drawAt stepLine stepLines lotLines linesOf flatMap
 table-holds = refl

@@ -45,6 +45,7 @@ mapOf counts sets = record { k = length counts; lot = 42; counts = counts; neigh
 abbrev pub triangle : Map
 triangle = mapOf (5 ∷ 7 ∷ 11 ∷ []) (6 ∷ 5 ∷ 3 ∷ [])
 
+-- "seven draws of 0"
 abbrev pub zeros : ℕ → List ℕ
 zeros n = replicate n 0
 
@@ -52,13 +53,16 @@ zeros n = replicate n 0
 abbrev pub lines : List String → List ℕ
 lines = flatMap (λ (line : String). ascii line ++ ascii "\n")
 
+-- an example: what it gives, and what document 01 says comes of it
 pub record Row : Type 0 where
   pub given : Given
   pub expected : List ℕ
 
+-- the two together
 abbrev pub row : Given → List ℕ → Row
 row given expected = record { given = given; expected = expected }
 
+-- the thirteen, in document 01's order (Edges)
 abbrev pub table : List Row
 table =
     -- "k = 1, count 9, one draw: report 9, 1 step, 0 links"

@@ -26,6 +26,7 @@ readFaultNumbers Rows = 5 ∷ []
 readFaultNumbers CheckWord = 6 ∷ []
 readFaultNumbers (Unfit fault) = faultNumbers fault
 
+-- 0 where nothing is refused
 abbrev pub readNumbers : ReadAnswer → List ℕ
 readNumbers Accepted = accepted
 readNumbers (Refused fault) = readFaultNumbers fault
@@ -35,6 +36,7 @@ pub record Outcome : Type 0 where
   pub numbers : List ℕ
   pub map : Map
 
+-- what a read answers, as numbers, and its map
 abbrev pub outcomeOf : MapRead → Outcome
 outcomeOf r = record { numbers = readNumbers (r .answer); map = r .map }
 
@@ -42,9 +44,11 @@ outcomeOf r = record { numbers = readNumbers (r .answer); map = r .map }
 abbrev pub emptyMap : Map
 emptyMap = record { k = 0; lot = 0; counts = replicate 64 0; neighbours = replicate 64 0 }
 
+-- a refusal hands back the empty map
 abbrev pub refused : ReadFault → Outcome
 refused fault = record { numbers = readFaultNumbers fault; map = emptyMap }
 
+-- the map that was read
 abbrev pub acceptedAs : Map → Outcome
 acceptedAs m = record { numbers = accepted; map = m }
 
@@ -56,12 +60,15 @@ trailerIn s = length s - trailerLength
 abbrev pub stationsIn : List ℕ → ℕ
 stationsIn s = number s (trailerIn s) 2
 
+-- "row length 12 (2)"
 abbrev pub rowLengthIn : List ℕ → ℕ
 rowLengthIn s = number s (trailerIn s + 2) 2
 
+-- "distance back .. (4)"
 abbrev pub distanceIn : List ℕ → ℕ
 distanceIn s = number s (trailerIn s + 4) 4
 
+-- "lot (4)"
 abbrev pub lotIn : List ℕ → ℕ
 lotIn s = number s (trailerIn s + 8) 4
 

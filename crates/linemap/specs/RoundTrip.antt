@@ -33,6 +33,7 @@ clearedOf m =
       neighbours = column (λ i. getD (m .neighbours) i 0) (m .k);
     }
 
+-- "the bytes it fills are what reads back. Equal maps agree in k, lot and all places below k" (The line map)
 pub record RoundTrips : Type 0 where
   -- what is written reads back, whatever stands before it: the same k and lot, the same places below k, zero above
   pub written-reads : (m : Map) → Fits m → acceptance m ≡ accepted → (before : List ℕ)

@@ -28,6 +28,7 @@ abbrev pub TrailerSays : List ℕ → TrailerRead → Type 0
 TrailerSays s (trailer.Refused fault) = reading s ≡ refused fault
 TrailerSays s (trailer.Found k lot start) = Found s k lot start
 
+-- what a trailer that was read answers so far
 abbrev pub trailerAnswer : TrailerRead → ReadAnswer
 trailerAnswer (trailer.Refused fault) = answer.Refused fault
 trailerAnswer (trailer.Found k lot start) = answer.Accepted
@@ -36,9 +37,11 @@ trailerAnswer (trailer.Found k lot start) = answer.Accepted
 unfoldable pub rowOf : List ℕ → ℕ → RowRead
 rowOf s at = unless (leb (at + rowLength) (length s)) (row.Refused Rows) (row.Row (number s at 4) (number s (at + 4) 8))
 
+-- what a row that was read answers so far
 abbrev pub rowAnswer : RowRead → ReadAnswer
 rowAnswer (row.Refused fault) = answer.Refused fault
 rowAnswer (row.Row count set) = answer.Accepted
 
+-- an answer with the empty map
 abbrev pub unreadBy : ReadAnswer → MapRead
 unreadBy a = record { answer = a; map = emptyMap }

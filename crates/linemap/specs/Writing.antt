@@ -20,6 +20,7 @@ abbrev pub writeFaultNumbers : WriteFault → List ℕ
 writeFaultNumbers (Unfit fault) = faultNumbers fault
 writeFaultNumbers (Buffer need) = 15 ∷ need ∷ []
 
+-- 0 with the bytes filled where nothing is refused
 abbrev pub writeNumbers : WriteAnswer → List ℕ
 writeNumbers (Written need) = 0 ∷ need ∷ []
 writeNumbers (Refused fault) = writeFaultNumbers fault

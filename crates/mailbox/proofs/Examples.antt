@@ -10,7 +10,7 @@ use Rattle.schedule.specs.Rules.{inRange, allowed}
 use Rattle.schedule.specs.Listing.{range, keepIf, select, candidates, listed, quiescent, isEmpty, step}
 use Rattle.schedule.specs.Listing as listing
 use Rattle.schedule.specs.Outcome.{RunOutcome}
-use Rattle.schedule.specs.Draws.{stepOn, drawFrom, drawOn, runMade, runNet, stopped, runOn}
+use Rattle.schedule.specs.Draws.{stepOn, picked, drawOn, runMade, runNet, stopped, runOn}
 use Rattle.stations.specs.Stations.{areWellFormed, freshStation, freshStations}
 use Rattle.slot.specs.declared.Message.the-variants.{Start, Answer}
 use Rattle.slot.specs.declared.Mailbox.the-variants.{Empty, Full}
@@ -52,5 +52,5 @@ abbrev whole-run : RunOutcome Net
 whole-run = runOn rules triangle (0 ∷ 0 ∷ 0 ∷ 0 ∷ 0 ∷ 0 ∷ 0 ∷ 0 ∷ [])
 
 total : (whole-run .steps ≡ 7) × (whole-run .rest ≡ true) × (station (whole-run .net) 0 .held ≡ record { sum = 23 }) × (drawOn rules (whole-run .net) 0 .number ≡ 14)
-unfolding runOn runMade runNet stopped drawOn drawFrom listed quiescent isEmpty select keepIf candidates range listing.count flatMap allowed wellFormed areWellFormed areBounded form.wellFormed allBelow inRange mayStep applied delivered reported settled boxesAfter freshNet freshStations freshStation tabulate startsPosted member count size without within rootOf valid bounded nothing gathered joined
+unfolding runOn runMade runNet stopped drawOn picked listed quiescent isEmpty select keepIf candidates range listing.count flatMap allowed wellFormed areWellFormed areBounded form.wellFormed allBelow inRange mayStep applied delivered reported settled boxesAfter freshNet freshStations freshStation tabulate startsPosted member count size without within rootOf valid bounded nothing gathered joined
 total = (refl, refl, refl, refl)

@@ -41,6 +41,7 @@ abbrev pub messageTaken : Config → ℕ → Message → Station → Station
 messageTaken t from Start s = cond (eqb (s .state) asleep) (awakened from s) (startTaken s)
 messageTaken t from (Answer v) s = answerTaken t v s
 
+-- the receiver after a delivery: an empty mailbox brings nothing
 abbrev pub taken : Config → ℕ → Mailbox → Station → Station
 taken t from Empty s = s
 taken t from (Full m) s = messageTaken t from m s
@@ -56,6 +57,7 @@ boxesAfter boxes from to receiver =
 abbrev pub mustAnswer : Config → ℕ → Station → Bool
 mustAnswer t to s = not (eqb to (rootOf t)) && eqb (s .waits) 0
 
+-- then it "is finished", with its sum in the mailbox to its parent; any other receiver stays as the message left it
 unfoldable pub settled : Config → List Station → List Slot → ℕ → Station → Net
 settled t stations boxes to s =
     cond (mustAnswer t to s)
@@ -72,6 +74,7 @@ delivered net from to =
 abbrev pub mayReport : Station → Bool
 mayReport root = eqb (root .state) active && eqb (root .waits) 0
 
+-- "it becomes finished"
 unfoldable pub reported : Net → ℕ → Net
 reported net root =
     record { config = net .config; stations = set (net .stations) root (ended (station net root)); boxes = net .boxes }

@@ -26,6 +26,7 @@ station net i = stationAt (net .stations) i
 abbrev pub place : ℕ → ℕ → ℕ
 place s r = s * 64 + r
 
+-- what the mailbox from s to r holds
 abbrev pub boxAt : List Slot → ℕ → ℕ → Mailbox
 boxAt boxes s r = getD boxes (place s r) (slotOf Empty) .content
 
@@ -33,6 +34,7 @@ boxAt boxes s r = getD boxes (place s r) (slotOf Empty) .content
 abbrev pub putBox : List Slot → ℕ → ℕ → Mailbox → List Slot
 putBox boxes s r b = set boxes (place s r) (slotOf b)
 
+-- "A post replaces what a box held"
 abbrev pub posted : List Slot → ℕ → ℕ → Message → List Slot
 posted boxes s r m = putBox boxes s r (Full m)
 

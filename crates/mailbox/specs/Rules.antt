@@ -12,9 +12,11 @@ use Rattle.mailbox.specs.declared.Net.{Net}
 use Rattle.mailbox.specs.Net.{station, boxAt, wellFormed}
 use Rattle.mailbox.specs.Delivery.{mayDeliver, mayReport, delivered, reported}
 
+-- "Delivery is kind 1"
 abbrev pub delivery : ℕ
 delivery = 1
 
+-- "report (0 and 0) kind 2"
 abbrev pub report : ℕ
 report = 2
 
@@ -29,9 +31,11 @@ mayStep s receiver box =
     (cond (eqb (s .kind) report) (mayReport receiver)
     false)
 
+-- the net after a delivery or a report
 unfoldable pub applied : Net → Step → Net
 applied net s = cond (eqb (s .kind) delivery) (delivered net (s .sender) (s .receiver)) (reported net (s .receiver))
 
+-- the kind of net: what `schedule` asks of one
 abbrev pub rules : Rules Net
 rules =
     record {

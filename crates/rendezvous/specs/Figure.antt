@@ -14,12 +14,15 @@ use Rattle.rendezvous.specs.Net.{station, withOne, withTwo}
 abbrev pub wake : ℕ
 wake = 1
 
+-- a start to an active station
 abbrev pub pass : ℕ
 pass = 2
 
+-- a sum to the parent
 abbrev pub answer : ℕ
 answer = 3
 
+-- the root's sum, at 0 and 0
 abbrev pub report : ℕ
 report = 4
 

@@ -16,6 +16,7 @@ station net i = stationAt (net .stations) i
 abbrev pub withOne : Net → ℕ → Station → Net
 withOne net i s = record { config = net .config; stations = set (net .stations) i s }
 
+-- two replaced, the sender first
 abbrev pub withTwo : Net → ℕ → Station → ℕ → Station → Net
 withTwo net j s i r = record { config = net .config; stations = set (set (net .stations) j s) i r }
 

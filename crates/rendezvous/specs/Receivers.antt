@@ -16,6 +16,7 @@ use Rattle.rendezvous.specs.Figure.{wake, pass, answer, report}
 unfoldable pub inState : Net → ℕ → ℕ
 inState net state = setOf (net .config .k) (λ i. eqb (station net i .state) state)
 
+-- who may take a start, asleep or active, and who an answer
 abbrev pub statesOf : Net → States
 statesOf net = record { asleep = inState net asleep; active = inState net active }
 

@@ -10,6 +10,7 @@ use Rattle.rendezvous.specs.Figure.{report, mayStep, applied}
 abbrev pub kinds : ℕ
 kinds = 4
 
+-- the kind of net: what `schedule` asks of one
 abbrev pub rules : Rules Net
 rules =
     record {

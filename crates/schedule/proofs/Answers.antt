@@ -15,7 +15,7 @@ use Rattle.schedule.specs.declared.RunAnswer.the-variants as run
 use Rattle.schedule.specs.declared.rows.Drawn.the-variants as drawn
 use Rattle.schedule.specs.Rules.{Rules, inRange, allowed}
 use Rattle.schedule.specs.Listing.{candidates, listed}
-use Rattle.schedule.specs.Rows.{picked}
+use Rattle.schedule.specs.Draws.{picked}
 use Rattle.schedule.proofs.Parts.{select-passes}
 use Rattle.schedule.proofs.Picks.{picked-passes}
 use Rattle.schedule.specs.Outcome.{Outcome, outcomeOf, runNumberOf}

@@ -10,8 +10,8 @@ use Rattle.schedule.specs.declared.rows.Drawn.the-variants as drawn
 use Rattle.schedule.specs.Rules.{Rules, allowed}
 use Rattle.schedule.specs.Listing.{listed}
 use Rattle.schedule.specs.Outcome.{accepted, refused}
-use Rattle.schedule.specs.Draws.{drawOn}
-use Rattle.schedule.specs.Rows.{listedIn, picked, AreRows}
+use Rattle.schedule.specs.Draws.{picked, drawOn}
+use Rattle.schedule.specs.Rows.{listedIn, AreRows}
 use Rattle.schedule.proofs.RowLists.{rows-list}
 use Rattle.schedule.proofs.Outcomes.{draw-nothing, draw-picked}
 use Rattle.schedule.proofs.Answers.{picked-allowed}

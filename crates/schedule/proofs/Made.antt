@@ -16,7 +16,7 @@ use Rattle.schedule.specs.declared.Step.{Step}
 use Rattle.schedule.specs.Rules.{Rules, inRange, allowed}
 use Rattle.schedule.specs.Listing.{listed, isEmpty, quiescent}
 use Rattle.schedule.specs.Outcome.{Outcome, accepted, refused}
-use Rattle.schedule.specs.Draws.{stepOn, drawFrom, drawOn, runMade, runNet, stopped, runOn}
+use Rattle.schedule.specs.Draws.{stepOn, picked, drawFrom, drawOn, runMade, runNet, stopped, runOn}
 use Rattle.schedule.specs.Calls.{Call, single, draw, run, callMade, callNet, callsMade, callsNet}
 use Rattle.schedule.proofs.Listing.{listed-complete, listed-allowed}
 
@@ -58,28 +58,28 @@ module _ {Net : Type 0} (R : Rules Net) where
       (λ f. rw f (nothing-made net))
 
   -- a draw is refused in a net that is not well-formed or is quiescent, and else makes an entry of the list
-  unfoldable pub Drawn : Net → Outcome Net → Type 0
-  Drawn net o =
+  unfoldable pub DrawComes : Net → Outcome Net → Type 0
+  DrawComes net o =
       ((r : Refusal) × (o ≡ refused r net) × ((R .wellFormed net ≡ false) ⊎ (quiescent R net ≡ true)))
       ⊎ ((s : Step) × (o ≡ accepted s (R .apply net s)) × Listed net s)
 
-  list-cases : (net : Net) (d : ℕ) (l : List Step) → R .wellFormed net ≡ true → listed R net ≡ l → Drawn net (drawFrom R net l d)
-  unfolding drawFrom quiescent isEmpty Drawn
+  list-cases : (net : Net) (d : ℕ) (l : List Step) → R .wellFormed net ≡ true → listed R net ≡ l → DrawComes net (drawFrom R net (picked l d))
+  unfolding picked quiescent isEmpty DrawComes
   list-cases net d [] f e = inl (NothingAllowed, refl, inr (rw e))
   list-cases net d (s ∷ l) f e =
       let n = d % length (s ∷ l) in
       inr (getD (s ∷ l) n s, refl, (f, rw e (getD-member (s ∷ l) n s (mod-lt d (omega arith)))))
 
-  pub draw-cases : (net : Net) (d : ℕ) → Drawn net (drawOn R net d)
-  unfolding drawOn Drawn
+  pub draw-cases : (net : Net) (d : ℕ) → DrawComes net (drawOn R net d)
+  unfolding drawOn DrawComes
   draw-cases net d = go (R .wellFormed net) refl
     where
-      go : (b : Bool) → R .wellFormed net ≡ b → Drawn net (cond b (drawFrom R net (listed R net) d) (refused OutOfForm net))
+      go : (b : Bool) → R .wellFormed net ≡ b → DrawComes net (cond b (drawFrom R net (picked (listed R net) d)) (refused OutOfForm net))
       go true f = list-cases net d (listed R net) f refl
       go false f = inl (OutOfForm, refl, inl f)
 
   pub draw-makes : (net : Net) (d : ℕ) → Makes net (drawOn R net d .made) (drawOn R net d .net)
-  unfolding Drawn
+  unfolding DrawComes
   draw-makes net d =
       by-sum (draw-cases net d) (λ w. rw (w .1) (nothing-made net)) (λ w. rw (w .1) (one-made net (w .0) (w .2)))
 
@@ -96,7 +96,7 @@ module _ {Net : Type 0} (R : Rules Net) where
   drawn-step net d s e = let m = drawn-listed net d s e in (listed-allowed R net s (m .runs .0 .1), m .ends)
 
   pub run-reaches : (net : Net) (ds : List ℕ) → Makes net (runMade R net ds) (runNet R net ds)
-  unfolding runMade runNet Drawn
+  unfolding runMade runNet DrawComes
   run-reaches net [] = nothing-made net
   run-reaches net (d ∷ ds) =
       let further = run-reaches (drawOn R net d .net) ds in

@@ -3,7 +3,7 @@
 use mathlib.Core.Path.{_≡_, refl, sym, ap}
 use mathlib.Core.Bool.{true, false}
 use mathlib.Core.List.{List, [], _∷_}
-use Prim.Native.Nat.{ℕ, suc, _+_, _%_, _≤_, _<_}
+use Prim.Native.Nat.{ℕ, suc, _+_, _≤_, _<_}
 use native.Mathlib.Nat.{zero-add}
 use native.Mathlib.Numerals.{add-one}
 use native.Mathlib.Omega.{arith}
@@ -18,8 +18,7 @@ use Rattle.schedule.specs.declared.rows.Drawn.the-variants as drawn
 use Rattle.schedule.specs.Rules.{Rules, inRange}
 use Rattle.schedule.specs.Listing.{isEmpty, listed, quiescent}
 use Rattle.schedule.specs.Outcome.{accepted, refused, RunOutcome}
-use Rattle.schedule.specs.Draws.{stepOn, drawFrom, drawOn, runMade, runNet, stopped, runOn}
-use Rattle.schedule.specs.Rows.{picked}
+use Rattle.schedule.specs.Draws.{stepOn, picked, drawOn, runMade, runNet, stopped, runOn}
 
 module _ {Net : Type 0} (R : Rules Net) where
   -- the outcomes of a single step
@@ -49,22 +48,12 @@ module _ {Net : Type 0} (R : Rules Net) where
 
     module _ (f : R .wellFormed net ≡ true) where
       pub draw-nothing : picked (listed R net) d ≡ drawn.Nothing → drawOn R net d ≡ refused NothingAllowed net
-      unfolding drawOn drawFrom picked
-      draw-nothing e = rw f (nothing (listed R net) e)
-        where
-          nothing : (l : List Step) → picked l d ≡ drawn.Nothing → drawFrom R net l d ≡ refused NothingAllowed net
-          nothing [] e = refl
-          nothing (s ∷ l) e = absurd (let z : _≡_ {A = ℕ} 0 1 = cc in omega arith)
+      unfolding drawOn
+      draw-nothing e = rw (f, e)
 
       pub draw-picked : (s : Step) → picked (listed R net) d ≡ drawn.Step s → drawOn R net d ≡ accepted s (R .apply net s)
-      unfolding drawOn drawFrom picked
-      draw-picked s e = rw f (made (listed R net) e)
-        where
-          made : (l : List Step) → picked l d ≡ drawn.Step s → drawFrom R net l d ≡ accepted s (R .apply net s)
-          made [] e = absurd (let z : _≡_ {A = ℕ} 0 1 = cc in omega arith)
-          made (t ∷ l) e =
-              let g : getD (t ∷ l) (d % length (t ∷ l)) t ≡ s = cc in
-              ap (λ (x : Step). accepted x (R .apply net x)) g
+      unfolding drawOn
+      draw-picked s e = rw (f, e)
 
   -- a run from a net after n steps, by the draws that are left
   unfoldable pub runFrom : Net → ℕ → List ℕ → RunOutcome Net

@@ -9,7 +9,8 @@ use lib.ListN.{length, getD}
 use Rattle.schedule.specs.declared.Step.{Step}
 use Rattle.schedule.specs.declared.rows.Entry.the-variants.{At, Beyond}
 use Rattle.schedule.specs.declared.rows.Drawn.the-variants as drawn
-use Rattle.schedule.specs.Rows.{entry, picked}
+use Rattle.schedule.specs.Rows.{entry}
+use Rattle.schedule.specs.Draws.{picked}
 use Rattle.schedule.proofs.Parts.{entry-at, length-of-beyond}
 
 pub picked-none : (l : List Step) (d : ℕ) → length l ≡ 0 → drawn.Nothing ≡ picked l d

@@ -12,9 +12,9 @@ use Rattle.schedule.specs.declared.Step.{Step}
 use Rattle.schedule.specs.Rules.{Rules}
 use Rattle.schedule.specs.Listing.{listed, isEmpty, quiescent}
 use Rattle.schedule.specs.Outcome.{Outcome}
-use Rattle.schedule.specs.Draws.{onward, drawFrom, drawOn, runMade, runNet, stopped, runOn}
+use Rattle.schedule.specs.Draws.{onward, picked, drawFrom, drawOn, runMade, runNet, stopped, runOn}
 use Rattle.schedule.specs.Calls.{draw, callMade, callNet, callsMade, callsNet}
-use Rattle.schedule.proofs.Made.{Drawn, draw-cases}
+use Rattle.schedule.proofs.Made.{DrawComes, draw-cases}
 
 module _ {Net : Type 0} (R : Rules Net) where
   -- where a run stops short
@@ -23,11 +23,11 @@ module _ {Net : Type 0} (R : Rules Net) where
 
   -- there every draw is refused
   stuck-refuses : (net : Net) (d : ℕ) → Stuck net → (drawOn R net d .made ≡ []) × (drawOn R net d .net ≡ net)
-  unfolding drawOn drawFrom quiescent isEmpty
+  unfolding drawOn picked quiescent isEmpty
   stuck-refuses net d (inl f) = rw f (refl, refl)
   stuck-refuses net d (inr q) = by-bool (R .wellFormed net) (λ f. rw f (empty (listed R net) q)) (λ f. rw f (refl, refl))
     where
-      empty : (l : List Step) → isEmpty l ≡ true → (drawFrom R net l d .made ≡ []) × (drawFrom R net l d .net ≡ net)
+      empty : (l : List Step) → isEmpty l ≡ true → (drawFrom R net (picked l d) .made ≡ []) × (drawFrom R net (picked l d) .net ≡ net)
       empty [] e = (refl, refl)
       empty (s ∷ l) e = clash e refl
 
@@ -47,7 +47,7 @@ module _ {Net : Type 0} (R : Rules Net) where
 
   -- a run makes what its draws make as calls of their own, and leaves the net that they leave
   pub run-is-draws : (net : Net) (ds : List ℕ) → (runMade R net ds ≡ callsMade R net (map draw ds)) × (runNet R net ds ≡ callsNet R net (map draw ds))
-  unfolding runMade runNet callsMade callsNet callMade callNet Drawn
+  unfolding runMade runNet callsMade callsNet callMade callNet DrawComes
   run-is-draws net [] = (refl, refl)
   run-is-draws net (d ∷ ds) =
       let further = run-is-draws (drawOn R net d .net) ds in
@@ -69,7 +69,7 @@ module _ {Net : Type 0} (R : Rules Net) where
 
   -- each draw makes a step, or the net reached is stuck
   pub run-stops : (net : Net) (ds : List ℕ) → (length (runMade R net ds) ≡ length ds) ⊎ ((length (runMade R net ds) < length ds) × Stuck (runNet R net ds))
-  unfolding runMade runNet Drawn
+  unfolding runMade runNet DrawComes
   run-stops net [] = inl refl
   run-stops net (d ∷ ds) =
       let further = run-stops (drawOn R net d .net) ds in

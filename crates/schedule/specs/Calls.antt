@@ -8,6 +8,7 @@ use Rattle.schedule.specs.declared.Step.{Step}
 use Rattle.schedule.specs.Rules.{Rules}
 use Rattle.schedule.specs.Draws.{stepOn, drawOn, runMade, runOn}
 
+-- "A list holds steps, draws and runs on one net" (Lists of calls)
 pub data Call : Type 0 where
   single : Step → Call
   draw : ℕ → Call
@@ -32,6 +33,7 @@ module _ {Net : Type 0} (R : Rules Net) where
   callsMade net [] = []
   callsMade net (c ∷ cs) = callMade net c ++ callsMade (callNet net c) cs
 
+  -- the net that the list leaves
   unfoldable pub callsNet : Net → List Call → Net
   callsNet net [] = net
   callsNet net (c ∷ cs) = callsNet (callNet net c) cs

@@ -6,6 +6,9 @@ use lib.ListN.{length, getD}
 use Rattle.refusal.specs.Refusal.{numberOf}
 use Rattle.refusal.specs.declared.Refusal.the-variants.{OutOfForm, OutOfRange, NotAllowed, NothingAllowed}
 use Rattle.schedule.specs.declared.Step.{Step}
+use Rattle.schedule.specs.declared.rows.Drawn.{Drawn}
+use Rattle.schedule.specs.declared.rows.Drawn.the-variants.{Nothing}
+use Rattle.schedule.specs.declared.rows.Drawn.the-variants as drawn
 use Rattle.schedule.specs.Rules.{Rules, inRange}
 use Rattle.schedule.specs.Listing.{listed, quiescent}
 use Rattle.schedule.specs.Outcome.{Outcome, accepted, refused, RunOutcome}
@@ -15,6 +18,11 @@ abbrev pub onward : {A : Type 0} → List Step → A → (Step → A) → A
 onward [] stop go = stop
 onward (s ∷ l) stop go = go s
 
+-- "A draw d (16 bits) picks entry d mod c, counted from 0, of the c allowed steps" (Stations that meet)
+unfoldable pub picked : List Step → ℕ → Drawn
+picked [] d = Nothing
+picked (s ∷ l) d = drawn.Step (getD (s ∷ l) (d % length (s ∷ l)) s)
+
 module _ {Net : Type 0} (R : Rules Net) where
   -- "a step goes 11, 12, 13" (Causes and numbers)
   unfoldable pub stepOn : Net → Step → Outcome Net
@@ -23,16 +31,14 @@ module _ {Net : Type 0} (R : Rules Net) where
       (cond (inRange R net s) (cond (R .guard net s) (accepted s (R .apply net s)) (refused NotAllowed net)) (refused OutOfRange net))
       (refused OutOfForm net)
 
-  -- "A draw d (16 bits) picks entry d mod c, counted from 0, of the c allowed steps" (Stations that meet)
-  unfoldable pub drawFrom : Net → List Step → ℕ → Outcome Net
-  drawFrom net [] d = refused NothingAllowed net
-  drawFrom net (s ∷ l) d =
-      let t = getD (s ∷ l) (d % length (s ∷ l)) s in
-      accepted t (R .apply net t)
+  -- the step that was picked is made; "draw with nothing allowed" (Causes and numbers) makes none
+  abbrev pub drawFrom : Net → Drawn → Outcome Net
+  drawFrom net Nothing = refused NothingAllowed net
+  drawFrom net (drawn.Step s) = accepted s (R .apply net s)
 
   -- "a draw 11, 14" (Causes and numbers)
   unfoldable pub drawOn : Net → ℕ → Outcome Net
-  drawOn net d = cond (R .wellFormed net) (drawFrom net (listed R net) d) (refused OutOfForm net)
+  drawOn net d = cond (R .wellFormed net) (drawFrom net (picked (listed R net) d)) (refused OutOfForm net)
 
   -- "A run takes a list of draws until they are used up or the net is at rest" (Stations that meet), or the form is left: until one is
   -- refused. The steps that it makes, in order, are "the entries its draws picked" (Lists of calls).
@@ -53,5 +59,6 @@ module _ {Net : Type 0} (R : Rules Net) where
       (record { number = 0; steps = n; rest = quiescent R net; net = net })
       (record { number = numberOf OutOfForm; steps = n; rest = false; net = net })
 
+  -- what a run gives: "the net, the number of steps made and whether it is at rest" (Stations that meet)
   unfoldable pub runOn : Net → List ℕ → RunOutcome Net
   runOn net ds = stopped (runNet net ds) (length (runMade net ds))

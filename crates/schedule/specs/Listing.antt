@@ -14,6 +14,7 @@ count a (suc n) = a ∷ count (suc a) n
 unfoldable pub range : ℕ → ℕ → List ℕ
 range a b = count a (b - a)
 
+-- an entry, if it passes, before the others
 unfoldable pub keepIf : {A : Type 0} → Bool → A → List A → List A
 keepIf true a l = a ∷ l
 keepIf false a l = l
@@ -23,6 +24,7 @@ unfoldable pub select : {A : Type 0} → (A → Bool) → List A → List A
 select p [] = []
 select p (a ∷ l) = keepIf (p a) a (select p l)
 
+-- "A step has a kind, a sender and a receiver" (Stations that meet)
 abbrev pub step : ℕ → ℕ → ℕ → Step
 step kind s r = record { kind = kind; sender = s; receiver = r }
 
@@ -31,6 +33,7 @@ unfoldable pub candidates : ℕ → ℕ → List Step
 candidates kinds k =
     flatMap (λ (kind : ℕ). flatMap (λ (s : ℕ). map (step kind s) (range 0 k)) (range 0 k)) (range 1 (suc kinds))
 
+-- nothing is listed
 unfoldable pub isEmpty : List Step → Bool
 isEmpty [] = true
 isEmpty (s ∷ l) = false

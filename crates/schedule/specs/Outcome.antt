@@ -16,6 +16,7 @@ pub record Outcome (Net : Type 0) : Type 0 where
   pub made : List Step
   pub net : Net
 
+-- a step that was made; 0 is no number of document 01's
 abbrev pub accepted : {Net : Type 0} → Step → Net → Outcome Net
 accepted s net = record { number = 0; made = s ∷ []; net = net }
 
@@ -40,5 +41,6 @@ abbrev pub runNumberOf : RunAnswer → ℕ
 runNumberOf run.Stopped = 0
 runNumberOf (run.Refused r) = numberOf r
 
+-- what a run's answer says
 abbrev pub runOutcomeOf : {Net : Type 0} → RunAnswer → ℕ → Bool → Net → RunOutcome Net
 runOutcomeOf answer steps rest net = record { number = runNumberOf answer; steps = steps; rest = rest; net = net }

@@ -2,14 +2,12 @@
 use mathlib.Core.Path.{_≡_}
 use mathlib.Core.Bool.{Bool}
 use mathlib.Core.List.{List, [], _∷_, map, flatMap}
-use Prim.Native.Nat.{ℕ, zero, suc, _+_, _-_, _*_, _%_, _≤_, _<_}
-use lib.ListN.{length, getD}
+use Prim.Native.Nat.{ℕ, zero, suc, _+_, _-_, _*_, _≤_, _<_}
+use lib.ListN.{getD}
 use Rattle.bitset.specs.Set.{member, setOf}
 use Rattle.schedule.specs.declared.Step.{Step}
 use Rattle.schedule.specs.declared.rows.Entry.{Entry}
 use Rattle.schedule.specs.declared.rows.Entry.the-variants.{At, Beyond}
-use Rattle.schedule.specs.declared.rows.Drawn.{Drawn}
-use Rattle.schedule.specs.declared.rows.Drawn.the-variants as drawn
 use Rattle.schedule.specs.Rules.{Rules, allowed}
 use Rattle.schedule.specs.Listing.{range, select, step}
 
@@ -43,11 +41,6 @@ inRows rows s = member (s .receiver) (rowAt rows (s .kind) (s .sender))
 -- the steps that the rows list, by kind, then sender, then receiver, rising
 unfoldable pub listedIn : List ℕ → ℕ → ℕ → List Step
 listedIn rows kinds k = select (inRows rows) (stepsOf 64 kinds k 1)
-
--- "A draw d (16 bits) picks entry d mod c, counted from 0, of the c allowed steps" (Stations that meet)
-unfoldable pub picked : List Step → ℕ → Drawn
-picked [] d = drawn.Nothing
-picked (s ∷ l) d = drawn.Step (getD (s ∷ l) (d % length (s ∷ l)) s)
 
 -- the rows of the steps allowed in a net
 pub record AreRows {Net : Type 0} (R : Rules Net) (net : Net) (rows : List ℕ) : Type 0 where

@@ -5,6 +5,7 @@ use Prim.Native.Nat.{ℕ}
 use lib.Dec.{leb, ltb, eqb}
 use Rattle.schedule.specs.declared.Step.{Step}
 
+-- what a kind of net brings: its kinds of step, and its own form, conditions and effects
 pub record Rules (Net : Type 0) : Type 0 where
   -- the kinds of step are 1 to `kinds`, and `reports` is the report's
   pub kinds : ℕ
@@ -26,6 +27,7 @@ stepInRange kinds reports k root s =
     && (not (eqb (s .kind) reports) || eqb (s .sender) root && eqb (s .receiver) root)
 
 module _ {Net : Type 0} (R : Rules Net) where
+  -- no number 12
   unfoldable pub inRange : Net → Step → Bool
   inRange net s = stepInRange (R .kinds) (R .reports) (R .stations net) (R .root net) s
 

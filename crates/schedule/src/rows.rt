@@ -6,7 +6,8 @@ ghost use mathlib.Core.Path.{_≡_};
 ghost use Prim.Native.Nat.{_≤_};
 ghost use lib.ListN.{length, getD};
 ghost use Rattle.schedule.specs.Listing.{select};
-ghost use Rattle.schedule.specs.Rows.{stepsOfKind, entry, inRows, listedIn, picked};
+ghost use Rattle.schedule.specs.Rows.{stepsOfKind, entry, inRows, listedIn};
+ghost use Rattle.schedule.specs.Draws.{picked};
 
 // What a search for an entry of a list by its number finds: the entry, or, where the list is too short, how many entries are still to pass.
 pub(crate) enum Entry {

@@ -8,6 +8,7 @@ use Rattle.slot.specs.declared.Mailbox.{Mailbox}
 use Rattle.slot.specs.declared.Mailbox.the-variants.{Empty, Full}
 use Rattle.slot.specs.declared.Slot.{Slot}
 
+-- the place that holds a mailbox
 abbrev pub slotOf : Mailbox → Slot
 slotOf b = record { content = b }
 
@@ -16,6 +17,7 @@ abbrev pub messageBounded : Config → Message → Bool
 messageBounded t Start = true
 messageBounded t (Answer v) = bounded t v
 
+-- an empty mailbox has no sum
 abbrev pub mailboxBounded : Config → Mailbox → Bool
 mailboxBounded t Empty = true
 mailboxBounded t (Full m) = messageBounded t m

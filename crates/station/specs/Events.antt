@@ -13,9 +13,11 @@ use Rattle.station.specs.declared.Station.{Station}
 abbrev pub asleep : ℕ
 asleep = 0
 
+-- woken, and not finished yet
 abbrev pub active : ℕ
 active = 1
 
+-- it has answered or reported
 abbrev pub finished : ℕ
 finished = 2
 

@@ -42,5 +42,6 @@ freshStation t count neighbours i =
     })
     blank
 
+-- all 64 places, of a map's counts and neighbours
 unfoldable pub freshStations : Config → List ℕ → List ℕ → List Station
 freshStations t counts neighbours = tabulate 64 (λ i. freshStation t (getD counts i 0) (getD neighbours i 0) i)

@@ -25,10 +25,12 @@ faultNumbers (Itself i) = 8 ∷ i ∷ []
 faultNumbers (OneWay i) = 9 ∷ i ∷ []
 faultNumbers (Apart i) = 10 ∷ i ∷ []
 
+-- 0 where the map is accepted
 abbrev pub verdictNumbers : Verdict → List ℕ
 verdictNumbers verdict.Accepted = accepted
 verdictNumbers (verdict.Refused fault) = faultNumbers fault
 
+-- 0 with m where the map is accepted
 abbrev pub linksNumbers : LinksAnswer → List ℕ
 linksNumbers (answer.Counted m) = 0 ∷ m ∷ []
 linksNumbers (answer.Refused fault) = faultNumbers fault
@@ -77,6 +79,7 @@ firstFrom test i (suc n) = cond (test i) i (firstFrom test (suc i) n)
 abbrev pub lowest : ℕ → (ℕ → Bool) → ℕ
 lowest k offends = firstFrom offends 0 k
 
+-- a rule over all stations, then the rest
 abbrev pub overAll : ℕ → (ℕ → Bool) → (ℕ → Fault) → List ℕ → List ℕ
 overAll k offends fault rest = unless (leb k (lowest k offends)) (faultNumbers (fault (lowest k offends))) rest
 

@@ -9,6 +9,7 @@ use lib.Dec.{eqb}
 abbrev pub accepted : List ℕ
 accepted = 0 ∷ []
 
+-- number 0
 abbrev pub isAccepted : List ℕ → Bool
 isAccepted [] = false
 isAccepted (number ∷ values) = eqb number 0

@@ -16,6 +16,7 @@ abbrev pub exchangedRow : ℕ → ℕ → List ℕ → ℕ → ℕ
 exchangedRow w firsts rows r =
     interleaved (getD rows (r / 2) 0 / 2 ^ (w * (r % 2))) (getD rows (r / 2 + 32) 0 / 2 ^ (w * (r % 2))) w firsts
 
+-- what a pass over all rows leaves
 pub record Exchanged (w firsts : ℕ) (rows out : List ℕ) : Type 0 where
   pub whole : length out ≡ 64
   pub row : (r : ℕ) → r < 64 → getD out r 0 ≡ exchangedRow w firsts rows r
