@@ -7,7 +7,9 @@
        answer = number + 256 * value
    A refusal leaves all that was lent as it was, but for a run that stops with 11: it leaves the net reached. Pointers are never null, and
    point to that many elements, or to one record. What a call writes overlaps nothing else that it is lent. What stands between the fields
-   of a record says nothing, and need not come back. */
+   of a record says nothing, and need not come back.
+
+   Every call takes less than 64 KB of stack. */
 #ifndef TALLY_H
 #define TALLY_H
 #include <stddef.h>
@@ -138,37 +140,45 @@ struct tally_run tally_rendezvous_run(struct tally_rendezvous *net, const uint16
 
 /* ---- stations with mail -------------------------------------------------------------------------------------------------------------
 
-   What a mailbox holds. */
-enum { TALLY_BOX_EMPTY, TALLY_BOX_START, TALLY_BOX_ANSWER };
-
-/* A mailbox: its content, and what an answer brings, which is zero beside the other contents. */
-struct tally_letter {
-    uint8_t content;
-    struct tally_aggregate held;
-};
-
-/* A net: boxes[s][r] is the mailbox from s to r. The sets of its stations hold the neighbours, and stay. */
-struct tally_mailbox_net {
+   A net is lent in two parts. Its stations; their sets hold the neighbours, and stay. */
+struct tally_line {
     struct tally_config config;
     struct tally_station stations[TALLY_STATIONS];
-    struct tally_letter boxes[TALLY_STATIONS][TALLY_STATIONS];
 };
 
-_Static_assert(sizeof(struct tally_letter) == 16, "tally_letter");
-_Static_assert(offsetof(struct tally_letter, held) == 8, "held");
-_Static_assert(sizeof(struct tally_mailbox_net) == 67080, "tally_mailbox_net");
-_Static_assert(offsetof(struct tally_mailbox_net, stations) == 8, "stations");
-_Static_assert(offsetof(struct tally_mailbox_net, boxes) == 1544, "boxes");
+/* And its mailboxes. The one from s to r holds a start where bit r of starts[s] is set, whatever answers[s] has there; else, where bit r of
+   answers[s] is set, an answer, which brings sums[s][r]; else nothing.
+
+   Any words are mailboxes. Emptying one clears its bit in both sets; posting sets its bit in one set and clears it in the other; only an
+   answer that is posted writes a sum. A sum beside no answer is not looked at. Mailboxes past k, and of a station to itself, are neither
+   looked at nor touched, but by an opening, which fills all words. */
+struct tally_mail {
+    uint64_t starts[TALLY_STATIONS];
+    uint64_t answers[TALLY_STATIONS];
+    uint64_t sums[TALLY_STATIONS][TALLY_STATIONS];
+};
+
+/* Whether a start, or an answer, waits from s to r (both below TALLY_STATIONS). */
+#define TALLY_START_WAITS(mail, s, r) ((mail)->starts[s] >> (r) & 1)
+#define TALLY_ANSWER_WAITS(mail, s, r) (((mail)->answers[s] & ~(mail)->starts[s]) >> (r) & 1)
+
+_Static_assert(sizeof(struct tally_line) == 1544, "tally_line");
+_Static_assert(offsetof(struct tally_line, stations) == 8, "stations");
+_Static_assert(sizeof(struct tally_mail) == 33792, "tally_mail");
+_Static_assert(offsetof(struct tally_mail, answers) == 512, "answers");
+_Static_assert(offsetof(struct tally_mail, sums) == 1024, "sums");
 
 /* The kinds of step with mail. A report is from 0 to 0. */
 enum { TALLY_DELIVERY = 1, TALLY_MAIL_REPORT };
 
-/* The calls of stations that meet, for stations with mail: the same numbers, with the same values. A letter that no mailbox has (a content
-   above 2, or a sum where there is no answer) is out of form wherever it stands: 11, and a run makes no step then. Each of these calls
-   has the net on its stack several times: leave it 2 MB. */
-uint64_t tally_mailbox_fresh(struct tally_mailbox_net *net, struct tally_map map);
-uint64_t tally_mailbox_step(struct tally_mailbox_net *net, uint8_t kind, uint8_t sender, uint8_t receiver);
-uint64_t tally_mailbox_draw(struct tally_mailbox_net *net, uint16_t d);
-struct tally_run tally_mailbox_run(struct tally_mailbox_net *net, const uint16_t *draws, size_t count);
+/* Opens the fresh net of a map: 0, or 3, or 7 to 10 with the station, which leave *line and *mail. All words are zero then, but for the
+   starts of station 0, which wait for its neighbours. */
+uint64_t tally_mailbox_fresh(struct tally_line *line, struct tally_mail *mail, struct tally_map map);
+
+/* A step, a draw and a run answer, and leave what they are lent, as those of stations that meet. An answer that waits with a sum of 2^62 or
+   more is out of form (11). */
+uint64_t tally_mailbox_step(struct tally_line *line, struct tally_mail *mail, uint8_t kind, uint8_t sender, uint8_t receiver);
+uint64_t tally_mailbox_draw(struct tally_line *line, struct tally_mail *mail, uint16_t d);
+struct tally_run tally_mailbox_run(struct tally_line *line, struct tally_mail *mail, const uint16_t *draws, size_t count);
 
 #endif

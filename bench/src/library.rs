@@ -4,7 +4,7 @@ use conformance::ffi::lending::LaidOut;
 use conformance::ffi::map::{self, tally_map_read, tally_map_write};
 use conformance::ffi::net::Exports;
 use conformance::model::map::Map;
-use conformance::model::net::Net as Model;
+use conformance::model::net::{Net as Model, Step};
 use conformance::model::station::Station;
 
 pub fn read(bytes: &[u8], map: &mut map::Map) {
@@ -37,6 +37,10 @@ where
         let mut net: Net<M> = Net { layout: M::set_up(&Map::empty(1, 0)).lay_out() };
         net.layout.fresh(map.lay_out()).done().expect("the map is accepted");
         net
+    }
+
+    fn step(&mut self, step: Step) {
+        self.layout.step(step).given().expect("the step is allowed");
     }
 
     fn draw(&mut self, draw: u16) {

@@ -6,18 +6,22 @@ mod shapes;
 mod timing;
 
 use conformance::ffi::lending::LaidOut;
+use conformance::ffi::net::Exports;
 use conformance::model::map::{stored, Map};
 use conformance::model::meet::Meet;
+use conformance::model::net::{Net as Model, Step};
 use conformance::model::station::Station;
 use shapes::{clique, draws, SHAPES};
 use std::hint::black_box;
-use timing::{seconds, shown, Timed};
+use timing::{shown, times, Timed, Times};
 
 const SIZES: [u8; 4] = [8, 16, 32, 64];
 
 /// A kind of net to be timed, in the library or by hand.
 pub trait Net: Clone {
     fn fresh(map: &Map) -> Self;
+
+    fn step(&mut self, step: Step);
 
     /// Makes the step that a draw picks.
     fn draw(&mut self, draw: u16);
@@ -32,6 +36,10 @@ pub trait Net: Clone {
 impl Net for Meet {
     fn fresh(map: &Map) -> Meet {
         by_hand::meet::fresh(map)
+    }
+
+    fn step(&mut self, step: Step) {
+        by_hand::meet::step(self, step).expect("the step is allowed");
     }
 
     fn draw(&mut self, draw: u16) {
@@ -53,6 +61,10 @@ impl Net for by_hand::mail::Mail {
         by_hand::mail::fresh(map)
     }
 
+    fn step(&mut self, step: Step) {
+        by_hand::mail::step(self, step).expect("the step is allowed");
+    }
+
     fn draw(&mut self, draw: u16) {
         by_hand::mail::draw(self, draw).expect("a step is allowed");
     }
@@ -67,16 +79,18 @@ impl Net for by_hand::mail::Mail {
 }
 
 fn main() {
-    println!("Times through the C interface beside hand-written Rust: the least of several, copying left out\n");
+    println!("Times are the least of several, copying left out; a ratio is the median over batches side by side.\n");
     maps();
-    nets::<library::Net<Meet>, Meet>("stations that meet");
+    nets::<Meet, Meet>("Stations that meet");
     #[cfg(feature = "mail")]
-    nets::<library::Net<conformance::model::mail::Mail>, by_hand::mail::Mail>("stations with mail");
+    nets::<conformance::model::mail::Mail, by_hand::mail::Mail>("Stations with mail");
 }
 
-fn line(what: &str, (library, by_hand): (f64, f64)) -> String {
-    let ratio = library / by_hand;
-    format!("  {what:<32} library {:>9}   by hand {:>9}   ratio {ratio:>7.1}", shown(library), shown(by_hand))
+/// A bar, where there is one, is the most that the ratio should be.
+fn line(what: &str, times: Times, bar: Option<f64>) -> String {
+    let (library, by_hand, ratio) = (shown(times.library), shown(times.by_hand), times.ratio);
+    let bar = bar.map_or(String::new(), |bar| format!("bar {bar:.1}{}", if ratio > bar { " missed" } else { "" }));
+    format!("  {what:<30} library {library:>9}   by hand {by_hand:>9}   ratio {ratio:>5.2}   {bar:<14}")
 }
 
 /// Reading and writing a map of 64 stations, all linked: acceptance has the most to look at there.
@@ -87,12 +101,12 @@ fn maps() {
     println!("A map of 64 stations, all linked");
     let library = Timed::new(&blank_laid_out, |lent| library::read(black_box(&bytes), lent));
     let by_hand = Timed::new(&blank, |lent| by_hand::map::read(black_box(&bytes), lent).expect("the map is accepted"));
-    println!("{}", line("read", seconds(library, by_hand)));
+    println!("{}", line("read", times(library, by_hand), None));
 
     let blank = vec![0; bytes.len()];
     let library = Timed::new(&blank, |lent| library::write(black_box(laid_out), lent));
     let by_hand = Timed::new(&blank, |lent| by_hand::map::write(black_box(&map), lent).expect("the map is accepted"));
-    println!("{}\n", line("write", seconds(library, by_hand)));
+    println!("{}\n", line("write", times(library, by_hand), None));
     maps_agree(&map, &bytes);
 }
 
@@ -108,45 +122,76 @@ fn maps_agree(map: &Map, bytes: &[u8]) {
     assert_eq!((&written[..], &written_by_hand[..]), (bytes, bytes));
 }
 
-/// One kind of net: a draw on 64 stations, then whole runs.
-fn nets<L: Net, H: Net>(kind: &str) {
-    println!("One draw of {kind}, 64 stations: the mean over a whole wave, drawn one by one");
+/// One kind of net: a draw and a step on 64 stations, then whole runs.
+fn nets<M, H>(kind: &str)
+where
+    M: Model + LaidOut,
+    M::Layout: Clone + Exports,
+    H: Net,
+{
+    println!("{kind}: one draw and one step are the mean over a whole wave; a run is from fresh to rest");
     for (shape, map_of) in SHAPES {
         let map = map_of(64);
-        println!("{}", line(shape, one_draw::<L, H>(&map, &draws(&map))));
-    }
-    println!("Whole runs of {kind}, from fresh to rest; growth from the size before");
-    for (shape, map_of) in SHAPES {
+        one_by_one::<M, H>(shape, &map, &draws(&map));
         let mut before = None;
         for k in SIZES {
             let map = map_of(k);
             let draws = draws(&map);
-            let times = whole_run::<L, H>(&map, &draws);
-            let what = format!("{shape}, {k} stations, {} steps", draws.len());
-            let growth = before.map_or(String::new(), |(library, by_hand)| {
-                format!("   growth {:>5.1} and {:>5.1}", times.0 / library, times.1 / by_hand)
-            });
-            println!("{}{growth}", line(&what, times));
+            let times = whole_run::<library::Net<M>, H>(&map, &draws);
+            let what = format!("{shape}, run of {k}, {} steps", draws.len());
+            println!("{}{}", line(&what, times, bar_of_run(k)), growth(before, times));
             before = Some(times);
         }
     }
     println!();
 }
 
-fn one_draw<L: Net, H: Net>(map: &Map, draws: &[u16]) -> (f64, f64) {
-    let (library, by_hand) = (L::fresh(map), H::fresh(map));
-    let waves = seconds(
+fn bar_of_run(k: u8) -> Option<f64> {
+    match k {
+        8 => Some(2.5),
+        64 => Some(2.0),
+        _ => None,
+    }
+}
+
+/// From the size before: the library's, that by hand, and the first over the second.
+fn growth(before: Option<Times>, times: Times) -> String {
+    before.map_or(String::new(), |before| {
+        let (library, by_hand) = (times.library / before.library, times.by_hand / before.by_hand);
+        format!("   growth {library:>5.2}, by hand {by_hand:>5.2}: {:.2}", times.ratio / before.ratio)
+    })
+}
+
+fn one_by_one<M, H>(shape: &str, map: &Map, draws: &[u16])
+where
+    M: Model + LaidOut,
+    M::Layout: Clone + Exports,
+    H: Net,
+{
+    let steps = steps_of::<M>(map, draws);
+    let (library, by_hand) = (library::Net::<M>::fresh(map), H::fresh(map));
+    let drawn = times(
         Timed::new(&library, |net| draws.iter().for_each(|&draw| net.draw(draw))),
         Timed::new(&by_hand, |net| draws.iter().for_each(|&draw| net.draw(draw))),
     );
-    let count = draws.len() as f64;
-    (waves.0 / count, waves.1 / count)
+    println!("{}", line(&format!("{shape}, one draw of 64"), drawn.of_each(draws.len()), Some(2.5)));
+    let stepped = times(
+        Timed::new(&library, |net| steps.iter().for_each(|&step| net.step(step))),
+        Timed::new(&by_hand, |net| steps.iter().for_each(|&step| net.step(step))),
+    );
+    println!("{}", line(&format!("{shape}, one step of 64"), stepped.of_each(steps.len()), None));
 }
 
-fn whole_run<L: Net, H: Net>(map: &Map, draws: &[u16]) -> (f64, f64) {
+/// The steps that draws pick, from the model.
+fn steps_of<M: Model>(map: &Map, draws: &[u16]) -> Vec<Step> {
+    let mut net = M::set_up(map);
+    draws.iter().map(|&draw| net.draw(draw).expect("a step is allowed")).collect()
+}
+
+fn whole_run<L: Net, H: Net>(map: &Map, draws: &[u16]) -> Times {
     let (library, by_hand) = (L::fresh(map), H::fresh(map));
     assert!(after(&library, draws) == after(&by_hand, draws), "the two leave different stations");
-    seconds(
+    times(
         Timed::new(&library, |net| assert_eq!(net.run(draws), draws.len())),
         Timed::new(&by_hand, |net| assert_eq!(net.run(draws), draws.len())),
     )

@@ -1,13 +1,15 @@
 //! How long a call takes, in time of the processor: other work on the machine counts for little.
 
+use std::sync::LazyLock;
+
 /// A batch takes about this long, where its calls are short enough to need more than one.
 const BATCH: f64 = 2e-3;
 
-/// No batch needs more copies of what it is lent than fit into the caches.
-const MOST_COPIES: usize = 64;
+/// The copies of what the calls of a batch are lent take no more bytes than a cache of the processor has.
+const MOST_BYTES: usize = 1 << 19;
 
-/// Batches are repeated for this long, and three times at least.
-const ENOUGH: f64 = 0.3;
+/// Batches are repeated for this long, and ten times at least.
+const ENOUGH: f64 = 0.4;
 
 #[repr(C)]
 struct Time {
@@ -28,6 +30,15 @@ fn now() -> f64 {
     time.seconds as f64 + time.nanoseconds as f64 * 1e-9
 }
 
+/// What reading the clock takes by itself.
+static OVERHEAD: LazyLock<f64> = LazyLock::new(|| {
+    let readings = (0..1_000).map(|_| {
+        let start = now();
+        now() - start
+    });
+    readings.fold(f64::MAX, f64::min)
+});
+
 /// A call, what it is lent, and the least time it has taken.
 pub struct Timed<'a, L, F> {
     lent: &'a L,
@@ -42,32 +53,50 @@ impl<'a, L: Clone, F: FnMut(&mut L)> Timed<'a, L, F> {
         timed
     }
 
-    /// Calls on copies of what is lent; copying is left out.
-    fn batch(&mut self, count: usize) {
+    /// The mean time of calls on copies of what is lent; copying is left out.
+    fn batch(&mut self, count: usize) -> f64 {
+        let overhead = *OVERHEAD;
         let mut copies = vec![self.lent.clone(); count];
         let start = now();
         copies.iter_mut().for_each(&mut self.call);
-        self.least = self.least.min((now() - start) / count as f64);
+        let mean = (now() - start - overhead) / count as f64;
+        self.least = self.least.min(mean);
+        mean
     }
 
-    fn next(&mut self) {
-        self.batch(((BATCH / self.least) as usize).clamp(1, MOST_COPIES));
+    fn next(&mut self) -> f64 {
+        self.batch(((BATCH / self.least) as usize).clamp(1, MOST_BYTES / size_of::<L>()))
     }
 }
 
-/// Seconds that each of two calls takes; they are timed in turns, so that both meet the same machine.
-pub fn seconds<A: Clone, B: Clone>(
+/// Seconds of a call in the library and of the same by hand, the least of several each, and how they compare.
+#[derive(Clone, Copy)]
+pub struct Times {
+    pub library: f64,
+    pub by_hand: f64,
+    /// The median of what batches side by side say: where other work slows both down, it stays.
+    pub ratio: f64,
+}
+
+impl Times {
+    /// The times of one of several calls that were timed together.
+    pub fn of_each(self, count: usize) -> Times {
+        Times { library: self.library / count as f64, by_hand: self.by_hand / count as f64, ratio: self.ratio }
+    }
+}
+
+/// Two calls are timed in turns, so that both meet the same machine.
+pub fn times<A: Clone, B: Clone>(
     mut library: Timed<A, impl FnMut(&mut A)>,
     mut by_hand: Timed<B, impl FnMut(&mut B)>,
-) -> (f64, f64) {
+) -> Times {
     let start = now();
-    let mut turns = 0;
-    while turns < 3 || now() - start < ENOUGH {
-        library.next();
-        by_hand.next();
-        turns += 1;
+    let mut ratios = Vec::new();
+    while ratios.len() < 10 || now() - start < ENOUGH {
+        ratios.push(library.next() / by_hand.next());
     }
-    (library.least, by_hand.least)
+    ratios.sort_by(f64::total_cmp);
+    Times { library: library.least, by_hand: by_hand.least, ratio: ratios[ratios.len() / 2] }
 }
 
 /// Seconds in a unit that a reader can take in.

@@ -1,124 +1,178 @@
-/* A net of stations with mail: steps, draws and runs on document 01's triangle, their values, and what refusals leave. The order:
-   deliveries 0 1, 1 2, 0 2, 2 0, 2 1 with 11, 1 0 with 18; report 23. */
+/* A net of stations with mail: steps, draws and runs on document 01's triangle, their values, what refusals leave, and how mailboxes are
+   read from words and written to words. The order: deliveries 0 1, 1 2, 0 2, 2 0, 2 1 with 11, 1 0 with 18; report 23. */
 #include "check.h"
-#include "tally.h"
+#include "triangle.h"
+#include <string.h>
 
-static const struct tally_map triangle = {3, 42, {5, 7, 11}, {6, 5, 3}};
+/* Sums on both sides of what the form allows. */
+static const uint64_t most = ((uint64_t)1 << 62) - 1, too_much = (uint64_t)1 << 62;
 
-static int is(const struct tally_station *s, uint64_t sum, uint64_t neighbours, uint8_t parent, uint8_t waits, uint8_t state)
+struct net {
+    struct tally_line line;
+    struct tally_mail mail;
+};
+
+/* All words of the mailboxes; between them there is nothing. */
+static int same_mail(const struct tally_mail *a, const struct tally_mail *b)
 {
-    return s->held.sum == sum && s->unstarted == neighbours && s->parent == parent && s->waits == waits && s->state == state;
+    return memcmp(a, b, sizeof *a) == 0;
 }
 
-static int holds(const struct tally_letter *l, uint8_t content, uint64_t sum)
+static int is_fresh(const struct net *net)
 {
-    return l->content == content && l->held.sum == sum;
+    static const struct tally_mail mail = {.starts = {6}};
+    return are_fresh(net->line.config, net->line.stations) && same_mail(&net->mail, &mail);
 }
 
-/* How many mailboxes are full, wherever they stand. */
-static unsigned full(const struct tally_mailbox_net *net)
+static uint64_t deliver(struct net *net, uint8_t sender, uint8_t receiver)
 {
-    unsigned count = 0;
-    for (unsigned s = 0; s < TALLY_STATIONS; s++)
-        for (unsigned r = 0; r < TALLY_STATIONS; r++)
-            count += !holds(&net->boxes[s][r], TALLY_BOX_EMPTY, 0);
-    return count;
+    return tally_mailbox_step(&net->line, &net->mail, TALLY_DELIVERY, sender, receiver);
 }
 
-static int is_fresh(const struct tally_mailbox_net *net)
+static uint64_t draw(struct net *net, uint16_t d)
 {
-    const struct tally_station *s = net->stations;
-    return net->config.k == 3 && is(&s[0], 5, 6, 0, 2, TALLY_ACTIVE) && is(&s[1], 7, 5, 0, 2, TALLY_ASLEEP)
-        && is(&s[2], 11, 3, 0, 2, TALLY_ASLEEP) && is(&s[3], 0, 0, 0, 0, TALLY_ASLEEP)
-        && is(&s[TALLY_STATIONS - 1], 0, 0, 0, 0, TALLY_ASLEEP) && full(net) == 2 && holds(&net->boxes[0][1], TALLY_BOX_START, 0)
-        && holds(&net->boxes[0][2], TALLY_BOX_START, 0);
+    return tally_mailbox_draw(&net->line, &net->mail, d);
 }
 
-static int made(uint64_t answer, uint8_t kind, uint8_t sender, uint8_t receiver)
+/* With draws of 0. */
+static struct tally_run run(struct net *net, size_t count)
 {
-    return TALLY_NUMBER(answer) == 0 && TALLY_KIND(answer) == kind && TALLY_SENDER(answer) == sender
-        && TALLY_RECEIVER(answer) == receiver;
+    static const uint16_t draws[7] = {0};
+    return tally_mailbox_run(&net->line, &net->mail, draws, count);
 }
 
-static void refusals(struct tally_mailbox_net *net)
+static int delivered(uint64_t answer, uint8_t sender, uint8_t receiver)
+{
+    return made(answer, TALLY_DELIVERY, sender, receiver);
+}
+
+/* The sets of the three senders. */
+static int starts_wait(const struct tally_mail *mail, uint64_t from_0, uint64_t from_1, uint64_t from_2)
+{
+    return mail->starts[0] == from_0 && mail->starts[1] == from_1 && mail->starts[2] == from_2;
+}
+
+static int answers_wait(const struct tally_mail *mail, uint64_t from_0, uint64_t from_1, uint64_t from_2)
+{
+    return mail->answers[0] == from_0 && mail->answers[1] == from_1 && mail->answers[2] == from_2;
+}
+
+static void refusals(struct net *net)
 {
     struct tally_map one_way = triangle;
     one_way.neighbours[0] = 4;
-    CHECK(tally_mailbox_fresh(net, one_way) == 9 + 256 * 1);
-    CHECK(tally_mailbox_step(net, 0, 0, 1) == 12);
-    CHECK(tally_mailbox_step(net, TALLY_MAIL_REPORT + 1, 0, 1) == 12);
-    CHECK(tally_mailbox_step(net, TALLY_DELIVERY, 0, 3) == 12);
-    CHECK(tally_mailbox_step(net, TALLY_MAIL_REPORT, 0, 1) == 12);
-    CHECK(tally_mailbox_step(net, TALLY_MAIL_REPORT, 0, 0) == 13);
-    CHECK(tally_mailbox_step(net, TALLY_DELIVERY, 1, 0) == 13);
-    CHECK(tally_mailbox_step(net, TALLY_DELIVERY, 1, 1) == 13);
+    CHECK(tally_mailbox_fresh(&net->line, &net->mail, one_way) == 9 + 256 * 1);
+    CHECK(tally_mailbox_step(&net->line, &net->mail, 0, 0, 1) == 12);
+    CHECK(tally_mailbox_step(&net->line, &net->mail, TALLY_MAIL_REPORT + 1, 0, 1) == 12);
+    CHECK(tally_mailbox_step(&net->line, &net->mail, TALLY_MAIL_REPORT, 0, 1) == 12);
+    CHECK(tally_mailbox_step(&net->line, &net->mail, TALLY_MAIL_REPORT, 0, 0) == 13);
+    CHECK(deliver(net, 0, 3) == 12);
+    CHECK(deliver(net, 1, 0) == 13);
+    CHECK(deliver(net, 1, 1) == 13);
     CHECK(is_fresh(net));
 }
 
-/* Every call refuses the net with this letter in a mailbox, and leaves it. */
-static void out_of_form(struct tally_mailbox_net net, uint8_t sender, uint8_t receiver, uint8_t content, uint64_t sum)
+/* An answer waits with a sum that is out of form: every call refuses the net and leaves it. */
+static void out_of_form(struct net net)
 {
-    struct tally_letter *letter = &net.boxes[sender][receiver], before = *letter;
-    letter->content = content;
-    letter->held.sum = sum;
-    CHECK(tally_mailbox_step(&net, TALLY_DELIVERY, 0, 1) == 11);
-    CHECK(tally_mailbox_draw(&net, 0) == 11);
-    const uint16_t draws[1] = {0};
-    struct tally_run run = tally_mailbox_run(&net, draws, 1);
-    CHECK(run.answer == 11 && run.steps == 0);
-    CHECK(holds(letter, content, sum));
-    *letter = before;
+    net.mail.answers[1] = 1;
+    net.mail.sums[1][0] = too_much;
+    const struct tally_mail before = net.mail;
+    CHECK(deliver(&net, 0, 1) == 11);
+    CHECK(draw(&net, 0) == 11);
+    struct tally_run stopped = run(&net, 1);
+    CHECK(stopped.answer == 11 && stopped.steps == 0);
+    CHECK(are_fresh(net.line.config, net.line.stations) && same_mail(&net.mail, &before));
+}
+
+/* Where both bits are set a start waits, and goes with both bits; the sum is not looked at, and stays. */
+static void both_bits(struct net net)
+{
+    net.mail.answers[0] = 2;
+    net.mail.sums[0][1] = too_much;
+    CHECK(TALLY_START_WAITS(&net.mail, 0, 1) && !TALLY_ANSWER_WAITS(&net.mail, 0, 1));
+    CHECK(delivered(deliver(&net, 0, 1), 0, 1));
+    CHECK(is(&net.line.stations[1], 7, 5, 0, 1, TALLY_ACTIVE));
+    CHECK(starts_wait(&net.mail, 4, 4, 0) && answers_wait(&net.mail, 0, 0, 0) && net.mail.sums[0][1] == too_much);
+}
+
+/* A post replaces what the mailbox held: a start an answer, whose sum stays, and an answer a start. */
+static void posts(struct net net)
+{
+    net.mail.answers[1] = 4;
+    net.mail.sums[1][2] = most;
+    CHECK(TALLY_ANSWER_WAITS(&net.mail, 1, 2) && !TALLY_START_WAITS(&net.mail, 1, 2));
+    CHECK(delivered(deliver(&net, 0, 1), 0, 1));
+    CHECK(starts_wait(&net.mail, 4, 4, 0) && answers_wait(&net.mail, 0, 0, 0) && net.mail.sums[1][2] == most);
+
+    net.mail.starts[1] = 1;
+    net.mail.starts[2] = 2;
+    CHECK(delivered(deliver(&net, 2, 1), 2, 1));
+    CHECK(is(&net.line.stations[1], 7, 5, 0, 0, TALLY_FINISHED));
+    CHECK(starts_wait(&net.mail, 4, 0, 0) && answers_wait(&net.mail, 0, 1, 0) && net.mail.sums[1][0] == 7);
+}
+
+/* Past k, from a station to itself, and beside no answer, any words may stand: no call but an opening looks at them or touches them. */
+static void strays(struct net net)
+{
+    const uint8_t last = TALLY_STATIONS - 1;
+    memset(&net.mail, 0xff, sizeof net.mail);
+    for (unsigned s = 0; s < 3; s++) {
+        net.mail.starts[s] &= ~(uint64_t)7 | (uint64_t)1 << s;
+        net.mail.answers[s] &= ~(uint64_t)7 | (uint64_t)1 << s;
+    }
+    struct tally_mail due = net.mail;
+    CHECK(deliver(&net, 1, 1) == 13 && deliver(&net, 0, last) == 12 && draw(&net, 0) == 14);
+    CHECK(same_mail(&net.mail, &due));
+
+    net.mail.starts[0] |= 2;
+    due.starts[1] |= 4;
+    CHECK(delivered(draw(&net, 0), 0, 1));
+    CHECK(same_mail(&net.mail, &due));
+    CHECK(tally_mailbox_fresh(&net.line, &net.mail, triangle) == 0);
     CHECK(is_fresh(&net));
 }
 
-static void letters(const struct tally_mailbox_net *net)
+static void wave(struct net *net)
 {
-    const uint8_t last = TALLY_STATIONS - 1;
-    out_of_form(*net, 1, 0, TALLY_BOX_ANSWER, (uint64_t)1 << 62);
-    out_of_form(*net, 1, 0, TALLY_BOX_ANSWER + 1, 0);
-    out_of_form(*net, 1, 0, TALLY_BOX_EMPTY, 1);
-    out_of_form(*net, 0, 1, TALLY_BOX_START, 1);
-    out_of_form(*net, last, last, 255, 0);
-    out_of_form(*net, last, 0, TALLY_BOX_START, (uint64_t)1 << 63);
+    const struct tally_station *stations = net->line.stations;
+    const struct tally_mail *mail = &net->mail;
+    CHECK(delivered(deliver(net, 0, 1), 0, 1));
+    CHECK(is(&stations[1], 7, 5, 0, 1, TALLY_ACTIVE));
+    CHECK(starts_wait(mail, 4, 4, 0) && answers_wait(mail, 0, 0, 0));
+    CHECK(delivered(draw(net, 1), 1, 2));
+    CHECK(is(&stations[2], 11, 3, 1, 1, TALLY_ACTIVE));
+    CHECK(starts_wait(mail, 4, 0, 1) && answers_wait(mail, 0, 0, 0));
+    CHECK(delivered(draw(net, 0), 0, 2));
+    CHECK(is(&stations[2], 11, 3, 1, 0, TALLY_FINISHED));
+    CHECK(starts_wait(mail, 0, 0, 1) && answers_wait(mail, 0, 0, 2) && mail->sums[2][1] == 11);
 
-    /* past k, any mailbox may stand: no call looks at it or touches it */
-    struct tally_mailbox_net other = *net;
-    other.boxes[last][0].content = TALLY_BOX_ANSWER;
-    other.boxes[last][0].held.sum = UINT64_MAX;
-    CHECK(made(tally_mailbox_step(&other, TALLY_DELIVERY, 0, 1), TALLY_DELIVERY, 0, 1));
-    CHECK(holds(&other.boxes[last][0], TALLY_BOX_ANSWER, UINT64_MAX));
-}
+    struct tally_run part = run(net, 2);
+    CHECK(part.answer == 0 && part.steps == 2);
+    CHECK(is(&stations[0], 5, 6, 0, 1, TALLY_ACTIVE) && is(&stations[1], 18, 5, 0, 0, TALLY_FINISHED));
+    CHECK(starts_wait(mail, 0, 0, 0) && answers_wait(mail, 0, 1, 0) && mail->sums[1][0] == 18);
+    struct tally_run rest = run(net, 7);
+    CHECK(TALLY_NUMBER(rest.answer) == 0 && TALLY_VALUE(rest.answer) == 1 && rest.steps == 2);
+    CHECK(is(&stations[0], 23, 6, 0, 0, TALLY_FINISHED));
+    CHECK(draw(net, 0) == 14);
 
-static void wave(struct tally_mailbox_net *net)
-{
-    const uint16_t draws[7] = {0};
-    CHECK(made(tally_mailbox_step(net, TALLY_DELIVERY, 0, 1), TALLY_DELIVERY, 0, 1));
-    CHECK(is(&net->stations[1], 7, 5, 0, 1, TALLY_ACTIVE));
-    CHECK(full(net) == 2 && holds(&net->boxes[0][2], TALLY_BOX_START, 0) && holds(&net->boxes[1][2], TALLY_BOX_START, 0));
-    CHECK(made(tally_mailbox_draw(net, 1), TALLY_DELIVERY, 1, 2));
-    CHECK(is(&net->stations[2], 11, 3, 1, 1, TALLY_ACTIVE));
-    CHECK(full(net) == 2 && holds(&net->boxes[0][2], TALLY_BOX_START, 0) && holds(&net->boxes[2][0], TALLY_BOX_START, 0));
-    CHECK(made(tally_mailbox_draw(net, 0), TALLY_DELIVERY, 0, 2));
-    CHECK(is(&net->stations[2], 11, 3, 1, 0, TALLY_FINISHED));
-    CHECK(full(net) == 2 && holds(&net->boxes[2][0], TALLY_BOX_START, 0) && holds(&net->boxes[2][1], TALLY_BOX_ANSWER, 11));
-
-    struct tally_run run = tally_mailbox_run(net, draws, 2);
-    CHECK(run.answer == 0 && run.steps == 2);
-    CHECK(is(&net->stations[0], 5, 6, 0, 1, TALLY_ACTIVE) && is(&net->stations[1], 18, 5, 0, 0, TALLY_FINISHED));
-    CHECK(full(net) == 1 && holds(&net->boxes[1][0], TALLY_BOX_ANSWER, 18));
-    run = tally_mailbox_run(net, draws, 7);
-    CHECK(TALLY_NUMBER(run.answer) == 0 && TALLY_VALUE(run.answer) == 1 && run.steps == 2);
-    CHECK(is(&net->stations[0], 23, 6, 0, 0, TALLY_FINISHED) && full(net) == 0);
-    CHECK(tally_mailbox_draw(net, 0) == 14);
+    struct tally_mail due = {{0}, {0}, {{0}}};
+    due.sums[2][1] = 11;
+    due.sums[1][0] = 18;
+    CHECK(same_mail(mail, &due));
 }
 
 int main(void)
 {
-    static struct tally_mailbox_net net;
-    CHECK(tally_mailbox_fresh(&net, triangle) == 0);
+    static struct net net;
+    memset(&net, 0xa5, sizeof net);
+    CHECK(tally_mailbox_fresh(&net.line, &net.mail, triangle) == 0);
     CHECK(is_fresh(&net));
     refusals(&net);
-    letters(&net);
+    out_of_form(net);
+    both_bits(net);
+    posts(net);
+    strays(net);
     wave(&net);
     return 0;
 }

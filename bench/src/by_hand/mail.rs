@@ -1,4 +1,4 @@
-use super::stations::{are_in_form, fresh as fresh_stations, in_state, member};
+use super::stations::{are_in_form, below, fresh as fresh_stations, in_state, is_in_range, member};
 use super::Refusal;
 use conformance::model::mail::{DELIVERY, REPORT};
 use conformance::model::map::Map;
@@ -6,29 +6,43 @@ use conformance::model::net::Step;
 use conformance::model::station::{Station, ACTIVE, ASLEEP, FINISHED};
 use conformance::model::SUM_LIMIT;
 
-/// The boxes are sets of receivers, one for each sender and kind of message, and the sums of the answers.
+/// The boxes are sets of receivers, one for each sender and kind of message, and the sums of the answers. A start goes
+/// before an answer, and boxes past k or of a station to itself are left alone, as in the library.
 #[derive(Clone, PartialEq)]
 pub struct Mail {
     pub k: u8,
     pub stations: [Station; 64],
     pub starts: [u64; 64],
     pub answers: [u64; 64],
-    pub sums: Vec<[u64; 64]>,
+    pub sums: [[u64; 64]; 64],
 }
 
 pub fn fresh(map: &Map) -> Mail {
     let mut starts = [0; 64];
     starts[0] = map.neighbours[0];
-    Mail { k: map.k, stations: fresh_stations(map), starts, answers: [0; 64], sums: vec![[0; 64]; 64] }
+    Mail { k: map.k, stations: fresh_stations(map), starts, answers: [0; 64], sums: [[0; 64]; 64] }
+}
+
+pub fn step(net: &mut Mail, step: Step) -> Result<Step, Refusal> {
+    if !net.is_in_form() {
+        return Err((11, 0));
+    }
+    if !is_in_range(net.k, REPORT, step) {
+        return Err((12, 0));
+    }
+    if !net.is_allowed(step) {
+        return Err((13, 0));
+    }
+    net.make(step);
+    Ok(step)
 }
 
 pub fn draw(net: &mut Mail, draw: u16) -> Result<Step, Refusal> {
     if !net.is_in_form() {
         return Err((11, 0));
     }
-    let mut open = Open::of(net);
-    let step = open.pick(net, draw).ok_or((14, 0))?;
-    open.make(net, step);
+    let step = Open::of(net).pick(net, draw).ok_or((14, 0))?;
+    net.make(step);
     Ok(step)
 }
 
@@ -40,9 +54,11 @@ pub fn run(net: &mut Mail, draws: &[u16]) -> Result<(usize, bool), usize> {
     let mut open = Open::of(net);
     for (steps, &draw) in draws.iter().enumerate() {
         let Some(step) = open.pick(net, draw) else { return Ok((steps, true)) };
-        open.make(net, step);
+        net.make(step);
+        let receiver = &net.stations[usize::from(step.receiver)];
+        open.follow(step.receiver, receiver.state);
         // the only thing that a step may take out of form
-        if net.stations[usize::from(step.receiver)].sum >= SUM_LIMIT {
+        if receiver.sum >= SUM_LIMIT {
             return Err(steps + 1);
         }
     }
@@ -51,26 +67,65 @@ pub fn run(net: &mut Mail, draws: &[u16]) -> Result<(usize, bool), usize> {
 
 impl Mail {
     fn is_in_form(&self) -> bool {
-        are_in_form(self.k, &self.stations)
-            && (0..usize::from(self.k)).all(|sender| {
-                let mut answers = self.answers[sender];
-                while answers != 0 {
-                    if self.sums[sender][answers.trailing_zeros() as usize] >= SUM_LIMIT {
-                        return false;
-                    }
-                    answers &= answers - 1;
-                }
-                true
-            })
+        are_in_form(self.k, &self.stations) && (0..usize::from(self.k)).all(|sender| self.has_bounded_answers(sender))
     }
 
-    fn post_answer(&mut self, sender: u8) {
-        let station = &mut self.stations[usize::from(sender)];
+    fn has_bounded_answers(&self, sender: usize) -> bool {
+        let mut answers = self.answers[sender] & !self.starts[sender] & below(self.k) & !(1 << sender);
+        while answers != 0 {
+            if self.sums[sender][answers.trailing_zeros() as usize] >= SUM_LIMIT {
+                return false;
+            }
+            answers &= answers - 1;
+        }
+        true
+    }
+
+    fn is_allowed(&self, Step { kind, sender, receiver }: Step) -> bool {
+        let station = &self.stations[usize::from(receiver)];
+        if kind == REPORT {
+            return station.state == ACTIVE && station.waits == 0;
+        }
+        let (starts, answers) = (self.starts[usize::from(sender)], self.answers[usize::from(sender)]);
+        sender != receiver
+            && (starts >> receiver & 1 != 0 && station.state != FINISHED
+                || answers >> receiver & 1 != 0 && station.state == ACTIVE)
+    }
+
+    fn make(&mut self, Step { kind, sender, receiver }: Step) {
+        let station = &mut self.stations[usize::from(receiver)];
+        if kind == REPORT {
+            station.state = FINISHED;
+            return;
+        }
+        let (from, to, bit) = (usize::from(sender), usize::from(receiver), 1 << receiver);
+        if station.state == ASLEEP {
+            station.parent = sender;
+            station.waits = (station.unstarted.count_ones() as u8).saturating_sub(1);
+            station.state = ACTIVE;
+            let others = station.unstarted & !(1 << sender);
+            self.starts[to] |= others;
+            self.answers[to] &= !others;
+        } else {
+            station.waits = station.waits.saturating_sub(1);
+            if self.starts[from] & bit == 0 {
+                station.sum += self.sums[from][to];
+            }
+        }
+        self.starts[from] &= !bit;
+        self.answers[from] &= !bit;
+        if receiver != 0 && self.stations[to].waits == 0 {
+            self.post_answer(to);
+        }
+    }
+
+    fn post_answer(&mut self, sender: usize) {
+        let station = &mut self.stations[sender];
         station.state = FINISHED;
         let (parent, sum) = (station.parent, station.sum);
-        self.starts[usize::from(sender)] &= !(1 << parent);
-        self.answers[usize::from(sender)] |= 1 << parent;
-        self.sums[usize::from(sender)][usize::from(parent)] = sum;
+        self.starts[sender] &= !(1 << parent);
+        self.answers[sender] |= 1 << parent;
+        self.sums[sender][usize::from(parent)] = sum;
     }
 }
 
@@ -86,9 +141,9 @@ impl Open {
         Open { to_starts: active | in_state(net.k, &net.stations, ASLEEP), to_answers: active }
     }
 
-    /// The receivers that a sender's boxes can be delivered to.
+    /// The receivers that a sender's boxes can be delivered to: whoever takes an answer takes a start too.
     fn deliveries(&self, net: &Mail, sender: usize) -> u64 {
-        net.starts[sender] & self.to_starts | net.answers[sender] & self.to_answers
+        (net.starts[sender] & self.to_starts | net.answers[sender] & self.to_answers) & !(1 << sender)
     }
 
     /// Entry d mod c of the allowed steps.
@@ -110,38 +165,13 @@ impl Open {
         Some(Step { kind: REPORT, sender: 0, receiver: 0 })
     }
 
-    fn make(&mut self, net: &mut Mail, Step { kind, sender, receiver }: Step) {
-        let station = &mut net.stations[usize::from(receiver)];
-        if kind == REPORT {
-            station.state = FINISHED;
-            self.close(0);
-            return;
-        }
-        let (from, bit) = (usize::from(sender), 1 << receiver);
-        if net.answers[from] & bit != 0 {
-            station.sum += net.sums[from][usize::from(receiver)];
-            station.waits = station.waits.saturating_sub(1);
-        } else if station.state == ACTIVE {
-            station.waits = station.waits.saturating_sub(1);
+    /// The state that a step left its receiver in: it woke, it closed, or nothing changed.
+    fn follow(&mut self, station: u8, state: u8) {
+        if state == ACTIVE {
+            self.to_answers |= 1 << station;
         } else {
-            *station =
-                Station { parent: sender, waits: station.unstarted.count_ones() as u8, state: ACTIVE, ..*station };
-            station.waits = station.waits.saturating_sub(1);
-            self.to_answers |= bit;
-            let others = station.unstarted & !(1 << sender);
-            net.starts[usize::from(receiver)] |= others;
-            net.answers[usize::from(receiver)] &= !others;
+            self.to_starts &= !(1 << station);
+            self.to_answers &= !(1 << station);
         }
-        net.starts[from] &= !bit;
-        net.answers[from] &= !bit;
-        if receiver != 0 && net.stations[usize::from(receiver)].waits == 0 {
-            net.post_answer(receiver);
-            self.close(receiver);
-        }
-    }
-
-    fn close(&mut self, station: u8) {
-        self.to_starts &= !(1 << station);
-        self.to_answers &= !(1 << station);
     }
 }

@@ -1,4 +1,4 @@
-use super::stations::{are_in_form, fresh as fresh_stations, in_state, member};
+use super::stations::{are_in_form, fresh as fresh_stations, in_state, is_in_range, member};
 use super::Refusal;
 use conformance::model::map::Map;
 use conformance::model::meet::{Meet, ANSWER, PASS, REPORT, WAKE};
@@ -10,13 +10,26 @@ pub fn fresh(map: &Map) -> Meet {
     Meet { k: map.k, stations: fresh_stations(map) }
 }
 
+pub fn step(net: &mut Meet, step: Step) -> Result<Step, Refusal> {
+    if !are_in_form(net.k, &net.stations) {
+        return Err((11, 0));
+    }
+    if !is_in_range(net.k, REPORT, step) {
+        return Err((12, 0));
+    }
+    if !is_allowed(net, step) {
+        return Err((13, 0));
+    }
+    make(net, step);
+    Ok(step)
+}
+
 pub fn draw(net: &mut Meet, draw: u16) -> Result<Step, Refusal> {
     if !are_in_form(net.k, &net.stations) {
         return Err((11, 0));
     }
-    let mut awake = Awake::of(net);
-    let step = awake.pick(net, draw).ok_or((14, 0))?;
-    awake.make(net, step);
+    let step = Awake::of(net).pick(net, draw).ok_or((14, 0))?;
+    make(net, step);
     Ok(step)
 }
 
@@ -28,7 +41,8 @@ pub fn run(net: &mut Meet, draws: &[u16]) -> Result<(usize, bool), usize> {
     let mut awake = Awake::of(net);
     for (steps, &draw) in draws.iter().enumerate() {
         let Some(step) = awake.pick(net, draw) else { return Ok((steps, true)) };
-        awake.make(net, step);
+        make(net, step);
+        awake.follow(step);
         // the only thing that a step may take out of form
         if net.stations[usize::from(step.receiver)].sum >= SUM_LIMIT {
             return Err(steps + 1);
@@ -96,31 +110,51 @@ impl Awake {
         }
     }
 
-    fn make(&mut self, net: &mut Meet, Step { kind, sender, receiver }: Step) {
-        let from = &mut net.stations[usize::from(sender)];
-        if kind == WAKE || kind == PASS {
-            from.unstarted &= !(1 << receiver);
-            let to = &mut net.stations[usize::from(receiver)];
-            if kind == PASS {
-                to.waits = to.waits.saturating_sub(1);
-                return;
+    fn follow(&mut self, Step { kind, sender, receiver }: Step) {
+        match kind {
+            WAKE => {
+                self.asleep &= !(1 << receiver);
+                self.active |= 1 << receiver;
             }
-            to.parent = sender;
-            to.waits = (to.unstarted.count_ones() as u8).saturating_sub(1);
-            to.unstarted &= !(1 << sender);
-            to.state = ACTIVE;
-            self.asleep &= !(1 << receiver);
-            self.active |= 1 << receiver;
+            PASS => {}
+            _ => self.active &= !(1 << sender),
+        }
+    }
+}
+
+fn is_allowed(net: &Meet, Step { kind, sender, receiver }: Step) -> bool {
+    let (from, to) = (&net.stations[usize::from(sender)], &net.stations[usize::from(receiver)]);
+    from.state == ACTIVE
+        && match kind {
+            REPORT => is_ready(from),
+            ANSWER => {
+                sender != 0 && sender != receiver && is_ready(from) && from.parent == receiver && to.state == ACTIVE
+            }
+            _ => from.unstarted >> receiver & 1 != 0 && to.state == if kind == WAKE { ASLEEP } else { ACTIVE },
+        }
+}
+
+fn make(net: &mut Meet, Step { kind, sender, receiver }: Step) {
+    let from = &mut net.stations[usize::from(sender)];
+    if kind == WAKE || kind == PASS {
+        from.unstarted &= !(1 << receiver);
+        let to = &mut net.stations[usize::from(receiver)];
+        if kind == PASS {
+            to.waits = to.waits.saturating_sub(1);
             return;
         }
-        from.state = FINISHED;
-        self.active &= !(1 << sender);
-        if kind == ANSWER {
-            let sum = from.sum;
-            let to = &mut net.stations[usize::from(receiver)];
-            to.sum += sum;
-            to.waits = to.waits.saturating_sub(1);
-        }
+        to.parent = sender;
+        to.waits = (to.unstarted.count_ones() as u8).saturating_sub(1);
+        to.unstarted &= !(1 << sender);
+        to.state = ACTIVE;
+        return;
+    }
+    from.state = FINISHED;
+    if kind == ANSWER {
+        let sum = from.sum;
+        let to = &mut net.stations[usize::from(receiver)];
+        to.sum += sum;
+        to.waits = to.waits.saturating_sub(1);
     }
 }
 

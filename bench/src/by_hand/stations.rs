@@ -1,6 +1,7 @@
 //! What both kinds of net share.
 
 use conformance::model::map::Map;
+use conformance::model::net::Step;
 use conformance::model::station::{Station, ACTIVE, ASLEEP, FINISHED};
 use conformance::model::SUM_LIMIT;
 
@@ -19,7 +20,7 @@ pub fn are_in_form(k: u8, stations: &[Station; 64]) -> bool {
     if !(1..=64).contains(&k) {
         return false;
     }
-    let below_k = u64::MAX >> (64 - k);
+    let below_k = below(k);
     stations[..k.into()].iter().enumerate().all(|(own, station)| {
         station.state <= FINISHED
             && station.parent < k
@@ -29,6 +30,16 @@ pub fn are_in_form(k: u8, stations: &[Station; 64]) -> bool {
             && station.sum < SUM_LIMIT
             && (own == 0 || usize::from(station.parent) != own)
     })
+}
+
+/// All stations of k, which is not 0.
+pub fn below(k: u8) -> u64 {
+    u64::MAX >> (64 - k)
+}
+
+/// Where the report has the last number of the kinds.
+pub fn is_in_range(k: u8, report: u8, Step { kind, sender, receiver }: Step) -> bool {
+    (1..=report).contains(&kind) && sender < k && receiver < k && (kind != report || sender == 0 && receiver == 0)
 }
 
 /// The stations below k in a state.

@@ -2,3 +2,4 @@ pub mod Entries
 pub mod Bits
 pub mod Laws
 pub mod Selected
+pub mod Unions

@@ -12,7 +12,7 @@ use lib.Bits.{bitAnd, and-step, and-shr}
 use borrow.Author.Tests.{lt-ltb, ltb-true, ltb-false, ne-eqb}
 use Rattle.finite.proofs.Cases.{by-bool, by-eq, eqb-self}
 use Rattle.bitset.specs.Set.{member, bitIf, setOf}
-use Rattle.bitset.proofs.Laws.{no-member-from, member-empty}
+use Rattle.bitset.proofs.Laws.{no-member-from, member-empty, member-shift}
 
 cond-le : (b : Bool) (x : ℕ) → cond b x 0 ≤ x
 cond-le true x = omega arith
@@ -123,3 +123,7 @@ member-mod i j s l =
     let e : suc d + j ≡ i = omega arith in
     ap (λ (n : ℕ). eqb (s % 2 ^ n / 2 ^ j % 2) 1) (sym e)
     ∙ ap (λ (x : ℕ). eqb x 1) (ap (λ (x : ℕ). x % 2) (field s (suc d) j) ∙ (rw add-one at (mod-mod-pow (s / 2 ^ j) d 1)))
+
+-- none of eight stations from r on is in a set whose byte there is 0
+pub none-of-eight : (r s : ℕ) → s / 2 ^ r % 256 ≡ 0 → (i : ℕ) → i < 8 → member (r + i) s ≡ false
+none-of-eight r s z i l = sym (member-shift r i s) ∙ sym (member-mod 8 i (s / 2 ^ r) l) ∙ ap (member i) z ∙ member-empty i

@@ -2,6 +2,7 @@
 use Prim.Native.Nat.{ℕ, zero, suc, _+_, _-_, _/_, _%_, _^_}
 use mathlib.Core.Bool.{Bool, _&&_, cond}
 use lib.Dec.{eqb, ltb}
+use lib.Bits.{bitAnd, bitOr}
 
 -- bit j of s, 0 or 1
 abbrev pub bit : ℕ → ℕ → ℕ
@@ -36,3 +37,15 @@ bitIf b j = cond (ltb j 64 && b) (2 ^ j) 0
 unfoldable pub setOf : ℕ → (ℕ → Bool) → ℕ
 setOf zero test = 0
 setOf (suc n) test = setOf n test + cond (test n) (2 ^ n) 0
+
+-- the stations of either set
+unfoldable pub union : ℕ → ℕ → ℕ
+union s t = bitOr s t
+
+-- the stations of s that are not in t
+unfoldable pub minus : ℕ → ℕ → ℕ
+minus s t = s - bitAnd s t
+
+-- the set s, where station j stands in it just where b says so
+unfoldable pub put : ℕ → Bool → ℕ → ℕ
+put j b s = union (without j s) (bitIf b j)

@@ -64,3 +64,24 @@ pub fn bit_if(b: bool, j: u8) -> u64
     }
     if b { 1u64 << j } else { 0 }
 }
+
+// The stations of either set.
+pub fn union(a: u64, b: u64) -> u64
+    ensures { λ r. ⌜ r ≡ Set.union a b ⌝ }
+{
+    a | b
+}
+
+// The stations of the first set that are not in the second.
+pub fn minus(a: u64, b: u64) -> u64
+    ensures { λ r. ⌜ r ≡ Set.minus a b ⌝ }
+{
+    a - (a & b)
+}
+
+// The set in which station j stands just where b says so; every other station as before.
+pub fn put(set: u64, j: u8, b: bool) -> u64
+    ensures { λ r. ⌜ r ≡ Set.put j b set ⌝ }
+{
+    union(without(set, j), bit_if(b, j))
+}

@@ -2,7 +2,7 @@
 -- the function by value returns. Assumes nothing.
 use mathlib.Core.Path.{_≡_, refl, ap, subst, _∙_}
 use mathlib.Core.List.{List, [], _∷_}
-use Prim.Native.Nat.{ℕ}
+use Prim.Native.Nat.{ℕ, suc}
 use mir.Syntax.{Ty, w64}
 use mir.Val.{Val}
 use contract.Lifetimes.{Lfts}
@@ -13,13 +13,18 @@ use denote.Struct.Declared.{Declared, shape, row}
 use denote.Struct.Struct.{layout}
 use denote.Struct.Laws as LL
 use Rattle.lent.proofs.Data.{Record, the-row, the-val, Answer, number-answer, struct-answer, pair-mir, pair-val, Argument, struct, Of}
-use Rattle.lent.proofs.Arguments.{values}
+use Rattle.lent.proofs.Arguments.{values, Seens}
+use Rattle.lent.proofs.Memory.{Beside, alone, words, with-memory}
 use Rattle.lent.proofs.Law.{Lending}
 use Rattle.station.proofs.Lent.{process}
 use Rattle.linemap.proofs.Map as Map
 use Rattle.linemap.proofs.Map.Laws as Map′
-use Rattle.rendezvous.proofs.Net as Net
-use Rattle.rendezvous.proofs.Net.Laws as Net′
+use Rattle.rendezvous.proofs.Net as Meeting
+use Rattle.rendezvous.proofs.Net.Laws as Meeting′
+use Rattle.mailbox.specs.Net.{Net}
+use Rattle.mailbox.specs.Net.{netOf}
+use Rattle.mailbox.proofs.Line as Line
+use Rattle.mailbox.proofs.Line.Laws as Line′
 use Rattle.capi.specs.Answers.{Called, called}
 use Rattle.capi.proofs.steps.Run as Run
 use Rattle.capi.proofs.steps.Run.Laws as Run′
@@ -31,12 +36,10 @@ use Rattle.capi.proofs.rendezvous_net.Answered as OnNet
 use Rattle.capi.proofs.rendezvous_net.Answered.Laws as OnNet′
 use Rattle.capi.proofs.rendezvous_net.RunAnswered as RunOnNet
 use Rattle.capi.proofs.rendezvous_net.RunAnswered.Laws as RunOnNet′
-use Rattle.capi.proofs.mailbox_net.Image as Image
-use Rattle.capi.proofs.mailbox_net.Image.Laws as Image′
-use Rattle.capi.proofs.mailbox_net.Answered as OnImage
-use Rattle.capi.proofs.mailbox_net.Answered.Laws as OnImage′
-use Rattle.capi.proofs.mailbox_net.RunAnswered as RunOnImage
-use Rattle.capi.proofs.mailbox_net.RunAnswered.Laws as RunOnImage′
+use Rattle.capi.proofs.mailbox_net.Answered as OnLine
+use Rattle.capi.proofs.mailbox_net.Answered.Laws as OnLine′
+use Rattle.capi.proofs.mailbox_net.RunAnswered as RunOnLine
+use Rattle.capi.proofs.mailbox_net.RunAnswered.Laws as RunOnLine′
 
 abbrev number : Answer
 number = number-answer w64
@@ -44,12 +47,14 @@ number = number-answer w64
 abbrev run : Answer
 run = struct-answer (record { type = Run.the-type; laws = Run′.the-laws; plain = Run′.the-plain })
 
--- a function with these arguments that lends S, over one that returns E, whose call comes to `rule`. The four facts hold by computation.
+-- a function with these arguments that lends S, over one that returns E, whose call comes to `rule`; `left` is what is left in what was lent.
+-- The four facts hold by computation.
 module _ {m : ℕ} (S : Record) (A : Answer) (E : Declared) (L : LL.Laws E) (answer : E .D → A .row .Denot) (after : E .D → S .type .D)
     (mir-is : layout (shape E) ≡ pair-mir S A (E .name)) (val-is : (d : E .D) → LL.val E L d ≡ pair-val S A (answer d) (after d))
     (is-answer : (d : E .D) (vs : List Val) → Is (row E) d vs → Is (A .row) (answer d) (A .val (answer d) ∷ []))
     (is-after : (d : E .D) (vs : List Val) → Is (row E) d vs → Is (the-row S) (after d) (the-val S (after d) ∷ []))
-    (Ns : List (Argument m)) (rule : (κs : Lfts m) → Denots (typesAt (values Ns) κs) → S .type .D → Called (A .row .Denot) (S .type .D)) where
+    (X : Beside m) (Ns : List (Argument m)) {Left : Type 0} (left : (κs : Lfts m) → Seens (with-memory X Ns) κs → S .type .D → Left)
+    (rule : (κs : Lfts m) → Denots (typesAt (values (with-memory X Ns)) κs) → S .type .D → Called (A .row .Denot) Left) where
   abbrev lending : Lending m
   lending = record {
     lent = S;
@@ -64,22 +69,23 @@ module _ {m : ℕ} (S : Record) (A : Answer) (E : Declared) (L : LL.Laws E) (ans
       is-answer = is-answer;
       is-after = is-after;
     };
+    memory = X;
     arguments = Ns;
-    promise = λ κs a x r y. called r y ≡ rule κs a x;
+    promise = λ κs a e x r y. called r (left κs e y) ≡ rule κs a x;
   }
 
 abbrev map : Record
 map = record { type = Map.the-type; laws = Map′.the-laws; plain = Map′.the-plain }
 
 abbrev net : Record
-net = record { type = Net.the-type; laws = Net′.the-laws; plain = Net′.the-plain }
+net = record { type = Meeting.the-type; laws = Meeting′.the-laws; plain = Meeting′.the-plain }
 
-abbrev image : Record
-image = record { type = Image.the-type; laws = Image′.the-laws; plain = Image′.the-plain }
+abbrev line : Record
+line = record { type = Line.the-type; laws = Line′.the-laws; plain = Line′.the-plain }
 
 -- a map that is handed over
-abbrev pub handed-map : Argument 0
-handed-map = struct map (λ y. tt) (λ y f. refl)
+abbrev pub handed-map : {m : ℕ} → Argument m
+handed-map = struct map
 
 module _ {m : ℕ} (Ns : List (Argument m)) where
   abbrev Rule : Type 0 → Type 0 → Type 0
@@ -89,34 +95,42 @@ module _ {m : ℕ} (Ns : List (Argument m)) where
   on-process =
       lending process number OnProcess.the-type OnProcess′.the-laws (λ d. d .answer) (λ d. d .process) refl (λ d. refl)
       (λ d vs is. LL.owed OnProcess.the-type OnProcess′.the-laws d vs is .0)
-      (λ d vs is. LL.owed OnProcess.the-type OnProcess′.the-laws d vs is .1 .0) Ns
+      (λ d vs is. LL.owed OnProcess.the-type OnProcess′.the-laws d vs is .1 .0) alone Ns (λ κs e y. y)
 
   abbrev pub on-map : Rule ℕ (map .type .D) → Lending m
   on-map =
       lending map number OnMap.the-type OnMap′.the-laws (λ d. d .answer) (λ d. d .map) refl (λ d. refl)
       (λ d vs is. LL.owed OnMap.the-type OnMap′.the-laws d vs is .0)
-      (λ d vs is. LL.owed OnMap.the-type OnMap′.the-laws d vs is .1 .0) Ns
+      (λ d vs is. LL.owed OnMap.the-type OnMap′.the-laws d vs is .1 .0) alone Ns (λ κs e y. y)
 
   abbrev pub on-net : Rule ℕ (net .type .D) → Lending m
   on-net =
       lending net number OnNet.the-type OnNet′.the-laws (λ d. d .answer) (λ d. d .net) refl (λ d. refl)
       (λ d vs is. LL.owed OnNet.the-type OnNet′.the-laws d vs is .0)
-      (λ d vs is. LL.owed OnNet.the-type OnNet′.the-laws d vs is .1 .0) Ns
+      (λ d vs is. LL.owed OnNet.the-type OnNet′.the-laws d vs is .1 .0) alone Ns (λ κs e y. y)
 
   abbrev pub run-on-net : Rule (run .row .Denot) (net .type .D) → Lending m
   run-on-net =
       lending net run RunOnNet.the-type RunOnNet′.the-laws (λ d. d .answer) (λ d. d .net) refl (λ d. refl)
       (λ d vs is. LL.owed RunOnNet.the-type RunOnNet′.the-laws d vs is .0)
-      (λ d vs is. LL.owed RunOnNet.the-type RunOnNet′.the-laws d vs is .1 .0) Ns
+      (λ d vs is. LL.owed RunOnNet.the-type RunOnNet′.the-laws d vs is .1 .0) alone Ns (λ κs e y. y)
 
-  abbrev pub on-image : Rule ℕ (image .type .D) → Lending m
-  on-image =
-      lending image number OnImage.the-type OnImage′.the-laws (λ d. d .answer) (λ d. d .image) refl (λ d. refl)
-      (λ d vs is. LL.owed OnImage.the-type OnImage′.the-laws d vs is .0)
-      (λ d vs is. LL.owed OnImage.the-type OnImage′.the-laws d vs is .1 .0) Ns
+-- the words of the mailboxes, lent beside the stations: the net left is made of both
+abbrev mailboxes : {m : ℕ} → Beside (suc m)
+mailboxes = words tt w64 4224
 
-  abbrev pub run-on-image : Rule (run .row .Denot) (image .type .D) → Lending m
-  run-on-image =
-      lending image run RunOnImage.the-type RunOnImage′.the-laws (λ d. d .answer) (λ d. d .image) refl (λ d. refl)
-      (λ d vs is. LL.owed RunOnImage.the-type RunOnImage′.the-laws d vs is .0)
-      (λ d vs is. LL.owed RunOnImage.the-type RunOnImage′.the-laws d vs is .1 .0) Ns
+module _ {m : ℕ} (Ns : List (Argument (suc m))) where
+  abbrev MailRule : Type 0 → Type 0
+  MailRule X = (κs : Lfts (suc m)) → Denots (typesAt (values (with-memory mailboxes Ns)) κs) → line .type .D → Called X Net
+
+  abbrev pub on-line : MailRule ℕ → Lending (suc m)
+  on-line =
+      lending line number OnLine.the-type OnLine′.the-laws (λ d. d .answer) (λ d. d .line) refl (λ d. refl)
+      (λ d vs is. LL.owed OnLine.the-type OnLine′.the-laws d vs is .0)
+      (λ d vs is. LL.owed OnLine.the-type OnLine′.the-laws d vs is .1 .0) mailboxes Ns (λ κs e y. netOf y (e .0 .now))
+
+  abbrev pub run-on-line : MailRule (run .row .Denot) → Lending (suc m)
+  run-on-line =
+      lending line run RunOnLine.the-type RunOnLine′.the-laws (λ d. d .answer) (λ d. d .line) refl (λ d. refl)
+      (λ d vs is. LL.owed RunOnLine.the-type RunOnLine′.the-laws d vs is .0)
+      (λ d vs is. LL.owed RunOnLine.the-type RunOnLine′.the-laws d vs is .1 .0) mailboxes Ns (λ κs e y. netOf y (e .0 .now))

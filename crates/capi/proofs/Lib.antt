@@ -2,4 +2,3 @@ pub mod Lent
 pub mod Given
 pub mod Calls
 pub mod Maps
-pub mod Images

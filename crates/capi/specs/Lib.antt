@@ -2,5 +2,3 @@ pub mod Answers
 pub mod Process
 pub mod Map
 pub mod Steps
-pub mod Rendezvous
-pub mod Mailbox

@@ -1,12 +1,17 @@
--- Steps, draws and runs from C, on either kind of net (document 01, "Stations that meet" and "Stations with mail").
+-- Openings, steps, draws and runs from C, of either kind of net (document 01, "Stations that meet" and "Stations with mail").
 use mathlib.Core.Bool.{Bool, cond}
 use mathlib.Core.List.{List, [], _∷_}
 use Prim.Native.Nat.{ℕ}
+use Rattle.linemap.specs.Openings.{Opening}
 use Rattle.schedule.specs.declared.Step.{Step}
 use Rattle.schedule.specs.declared.Answer.{Answer}
 use Rattle.schedule.specs.Outcome.{Outcome, outcomeOf, RunOutcome}
 use Rattle.capi.specs.declared.steps.Run.{Run}
-use Rattle.capi.specs.Answers.{packed, Called, called}
+use Rattle.capi.specs.Answers.{packed, Called, called, replacing}
+
+-- "a map handed over goes 3, 7 to 10" (Causes and numbers), else the fresh net
+abbrev pub freshCall : {Net : Type 0} → Opening Net → Net → Called ℕ Net
+freshCall opened before = replacing (opened .numbers) before (opened .net)
 
 -- "A step has a kind, a sender and a receiver"
 abbrev pub stepAt : ℕ → ℕ → ℕ → Step

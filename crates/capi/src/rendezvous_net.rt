@@ -9,9 +9,9 @@ ghost use mathlib.Core.Path.{_≡_};
 ghost use Rattle.schedule.specs.Outcome.{outcomeOf};
 ghost use Rattle.schedule.specs.Draws.{stepOn, drawOn, runOn};
 ghost use Rattle.rendezvous.specs.Rules.{rules};
+ghost use Rattle.rendezvous.specs.Opening.{opening};
 ghost use Rattle.capi.specs.Answers.{called};
-ghost use Rattle.capi.specs.Steps.{stepAt, stepCall, runCall};
-ghost use Rattle.capi.specs.Rendezvous.{freshCall};
+ghost use Rattle.capi.specs.Steps.{freshCall, stepAt, stepCall, runCall};
 
 // What a call answers, as one number, and the net after it.
 pub struct Answered {
@@ -37,7 +37,7 @@ fn from_stepped(stepped: Stepped) -> Answered
 }
 
 fn fresh(before: Net, map: Map) -> Answered
-    ensures { λ r. ⌜ called (r .answer) (r .net) ≡ freshCall map before ⌝ }
+    ensures { λ r. ⌜ called (r .answer) (r .net) ≡ freshCall (opening map) before ⌝ }
 {
     let opened = rendezvous::fresh(map);
     let verdict = opened.verdict;
@@ -88,7 +88,7 @@ fn run(net: Net, draws: &[u16]) -> RunAnswered
 // The fresh net of an accepted map.
 #[no_mangle]
 pub extern "C" fn tally_rendezvous_fresh(net: &mut Net, map: Map) -> u64
-    ensures { λ r. ⌜ called r (now (net .exit)) ≡ freshCall map (now (net .entry)) ⌝ }
+    ensures { λ r. ⌜ called r (now (net .exit)) ≡ freshCall (opening map) (now (net .entry)) ⌝ }
 {
     let before = *net;
     let after = fresh(before, map);

@@ -1,3 +1,4 @@
 pub mod Data
 pub mod Arguments
+pub mod Memory
 pub mod Law

@@ -15,18 +15,17 @@ use Rattle.bitset.proofs.Laws.{member-without}
 use Rattle.station.specs.declared.Station.{Station}
 use Rattle.station.specs.Events.{asleep, ended}
 use Rattle.stations.specs.Stations.{outside, stationAt}
-use Rattle.slot.specs.declared.Message.the-variants.{Start, Answer}
-use Rattle.slot.specs.declared.Mailbox.the-variants.{Empty, Full}
-use Rattle.slot.specs.declared.Slot.{Slot}
-use Rattle.mailbox.specs.declared.Net.{Net}
-use Rattle.mailbox.specs.Net.{station, boxAt, putBox}
-use Rattle.mailbox.specs.Delivery.{taken, boxesAfter, mustAnswer, settled, delivered, reported}
-use Rattle.mailbox.proofs.Posting.{box-after-put, length-starts, box-after-starts}
+use Rattle.mail.specs.declared.Message.the-variants.{Start, Answer}
+use Rattle.mail.specs.declared.Mailbox.the-variants.{Empty, Full}
+use Rattle.mail.specs.Mail.{boxAt, withBox}
+use Rattle.mail.proofs.Laws.{length-box, length-starts, box-after, box-after-starts}
+use Rattle.mailbox.specs.Net.{Net, station}
+use Rattle.mailbox.specs.Delivery.{taken, boxesAfter, mustAnswer, boxesSettled, delivered, reported}
 
 -- the lists of a net have the arrays' lengths
 pub record Shaped (net : Net) : Type 0 where
   pub stations : length (net .stations) ≡ 64
-  pub boxes : length (net .boxes) ≡ 4096
+  pub boxes : length (net .boxes) ≡ 4224
 
 -- every station after one is written: that one, or as it was
 pub station-after-set : (stations : List Station) (i : ℕ) (s : Station) → i < length stations → (x : ℕ)
@@ -36,28 +35,28 @@ station-after-set stations i s h x =
     (λ e. rw (e, eq-eqb i i refl) (getD-set-same stations i s outside h))
     (λ ne. rw (ne-eqb x i ne) (getD-set-other stations i x s outside ne))
 
-module _ (boxes : List Slot) (long : length boxes ≡ 4096) (from to : ℕ) (hf : from < 64) (ht : to < 64) (receiver : Station) where
-  pub length-boxes-after : length (boxesAfter boxes from to receiver) ≡ 4096
+module _ (boxes : List ℕ) (long : length boxes ≡ 4224) (from to : ℕ) (hf : from < 64) (ht : to < 64) (receiver : Station) where
+  pub length-boxes-after : length (boxesAfter boxes from to receiver) ≡ 4224
   unfolding boxesAfter
   length-boxes-after =
-      let emptied : length (putBox boxes from to Empty) ≡ 4096 = length-set boxes _ _ ∙ long in
+      let emptied : length (withBox boxes from to Empty) ≡ 4224 = length-box boxes from to Empty ∙ long in
       by-bool (eqb (receiver .state) asleep)
-      (λ e. rw e (length-starts (putBox boxes from to Empty) to (without from (receiver .unstarted)) 64 ∙ emptied))
+      (λ e. rw e (length-starts (withBox boxes from to Empty) to (without from (receiver .unstarted)) ∙ emptied))
       (λ e. rw e emptied)
 
   -- the delivered one is empty, and a receiver that was asleep has posted a start to every neighbour but the sender
-  pub box-after-taking : (x y : ℕ) → y < 64
+  pub box-after-taking : (x y : ℕ) → x < 64 → y < 64
       → boxAt (boxesAfter boxes from to receiver) x y
       ≡ cond (eqb x to && (eqb (receiver .state) asleep && (member y (receiver .unstarted) && not (eqb y from)))) (Full Start)
       (cond (eqb x from && eqb y to) Empty (boxAt boxes x y))
   unfolding boxesAfter
-  box-after-taking x y hy =
-      let emptied = box-after-put boxes long from to Empty hf ht x y hy in
+  box-after-taking x y hx hy =
+      let emptied = box-after boxes long from hf x hx to ht y hy Empty in
       let set = receiver .unstarted in
       by-bool (eqb (receiver .state) asleep)
       (λ e.
       rw e
-      (box-after-starts (putBox boxes from to Empty) (length-set boxes _ _ ∙ long) to (without from set) ht x y hy
+      (box-after-starts (withBox boxes from to Empty) (length-box boxes from to Empty ∙ long) to ht x hx (without from set) y
       ∙ rw (member-without y from set, and-comm (not (eqb y from)) (member y set), emptied)))
       (λ e. rw (e, and-false) emptied)
 
@@ -66,40 +65,40 @@ module _ (net : Net) (shaped : Shaped net) (from to : ℕ) (hf : from < 64) (ht 
   abbrev pub receiver : Station
   receiver = taken (net .config) from (boxAt (net .boxes) from to) (station net to)
 
-  abbrev boxes : List Slot
+  abbrev boxes : List ℕ
   boxes = boxesAfter (net .boxes) from to (station net to)
 
-  long : length boxes ≡ 4096
+  long : length boxes ≡ 4224
   long = length-boxes-after (net .boxes) (shaped .boxes) from to hf ht (station net to)
 
   pub delivered-config : delivered net from to .config ≡ net .config
-  unfolding delivered settled
-  delivered-config = by-bool (mustAnswer (net .config) to receiver) (λ e. rw e) (λ e. rw e)
+  unfolding delivered boxesSettled
+  delivered-config = refl
 
   pub delivered-shaped : Shaped (delivered net from to)
-  unfolding delivered settled
+  unfolding delivered boxesSettled
   delivered-shaped =
       by-bool (mustAnswer (net .config) to receiver)
-      (λ e. rw e record { stations = length-set (net .stations) _ _ ∙ shaped .stations; boxes = length-set boxes _ _ ∙ long })
+      (λ e. rw e record { stations = length-set (net .stations) _ _ ∙ shaped .stations; boxes = length-box boxes to _ _ ∙ long })
       (λ e. rw e record { stations = length-set (net .stations) _ _ ∙ shaped .stations; boxes = long })
 
   -- the receiver has taken the message, and is finished where it must answer; every other station is as it was
   pub station-after-delivery : (x : ℕ)
       → station (delivered net from to) x ≡ cond (eqb x to) (cond (mustAnswer (net .config) to receiver) (ended receiver) receiver) (station net x)
-  unfolding delivered settled
+  unfolding delivered boxesSettled
   station-after-delivery x =
       let below : to < length (net .stations) = omega (arith, shaped .stations) in
       by-bool (mustAnswer (net .config) to receiver)
       (λ e. rw e (station-after-set (net .stations) to (ended receiver) below x))
       (λ e. rw e (station-after-set (net .stations) to receiver below x))
 
-  module _ (low : receiver .parent < 64) (x y : ℕ) (hy : y < 64) where
+  module _ (low : receiver .parent < 64) (x y : ℕ) (hx : x < 64) (hy : y < 64) where
     answered : boxAt (delivered net from to .boxes) x y
         ≡ cond (eqb x to && (mustAnswer (net .config) to receiver && eqb y (receiver .parent))) (Full (Answer (receiver .held))) (boxAt boxes x y)
-    unfolding delivered settled
+    unfolding delivered boxesSettled withBox
     answered =
         by-bool (mustAnswer (net .config) to receiver)
-        (λ e. rw e (box-after-put boxes long to (receiver .parent) (Full (Answer (receiver .held))) ht low x y hy))
+        (λ e. rw e (box-after boxes long to ht x hx (receiver .parent) low y hy (Full (Answer (receiver .held)))))
         (λ e. rw (e, and-false))
 
     -- the delivered mailbox is empty; a receiver that must answer has posted its sum to its parent, and one that was asleep a start to every
@@ -112,7 +111,7 @@ module _ (net : Net) (shaped : Shaped net) (from to : ℕ) (hf : from < 64) (ht 
         (boxAt (net .boxes) x y)))
     box-after-delivery apart =
         answered
-        ∙ rw (box-after-taking (net .boxes) (shaped .boxes) from to hf ht (station net to) x y hy)
+        ∙ rw (box-after-taking (net .boxes) (shaped .boxes) from to hf ht (station net to) x y hx hy)
         (by-bool (eqb x from && eqb y to)
         (λ e.
         let other : eqb x to ≡ false = ne-eqb x to (λ z. apart (sym (eqb-true x from (and-both (eqb x from) (eqb y to) e .0)) ∙ z)) in

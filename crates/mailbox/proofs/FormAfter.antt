@@ -3,9 +3,10 @@
 use mathlib.Core.Path.{_≡_, refl, sym, _∙_, ap, subst}
 use mathlib.Core.Bool.{Bool, true, false, _&&_, _||_}
 use mathlib.Core.List.{List}
-use Prim.Native.Nat.{ℕ, zero, suc, _≤_, _<_}
-use lib.ListN.{length, getD, set, List·getD-eq-default}
-use lib.Seq.{set-out, getD-set-same, getD-set-other}
+use Prim.Native.Nat.{ℕ, _≤_, _<_}
+use native.Mathlib.Omega.{arith}
+use lib.ListN.{length, set, List·getD-eq-default}
+use lib.Seq.{getD-set-same}
 use lib.Dec.{eqb, ltb}
 use borrow.Author.Tests.{eqb-false, eq-eqb, ne-eqb, ltb-true, ltb-false}
 use Rattle.finite.proofs.Cases.{by-bool, by-eq, clash, or-right}
@@ -23,54 +24,73 @@ use Rattle.schedule.proofs.Listing.{range-bounds}
 use Rattle.schedule.proofs.Answers.{allowed-parts}
 use Rattle.stations.specs.Stations.{outside, stationAt, areWellFormed}
 use Rattle.stations.proofs.Laws.{replaced-bounded}
-use Rattle.slot.specs.declared.Message.the-variants.{Start, Answer}
-use Rattle.slot.specs.declared.Mailbox.{Mailbox}
-use Rattle.slot.specs.declared.Mailbox.the-variants.{Empty, Full}
-use Rattle.slot.specs.declared.Slot.{Slot}
-use Rattle.slot.specs.Slot.{slotOf, mailboxBounded}
-use Rattle.mailbox.specs.declared.Net.{Net}
-use Rattle.mailbox.specs.Net.{station, place, boxAt, putBox, startsPosted, areBounded, wellFormed}
-use Rattle.mailbox.specs.Delivery.{takesFrom, awakened, taken, boxesAfter, mustAnswer, settled, delivered, reported}
+use Rattle.mail.specs.declared.Message.the-variants.{Start, Answer}
+use Rattle.mail.specs.declared.Mailbox.{Mailbox}
+use Rattle.mail.specs.declared.Mailbox.the-variants.{Empty, Full}
+use Rattle.mail.specs.Mail.{mailboxBounded, boxAt, withBox, startsPosted}
+use Rattle.mail.proofs.Laws.{length-starts, length-box, box-after-starts, box-after}
+use Rattle.mailbox.specs.Net.{Net, station, areBounded, wellFormed}
+use Rattle.mailbox.specs.Delivery.{takesFrom, awakened, taken, boxesAfter, boxesSettled, boxesDelivered, mustAnswer, delivered, reported}
 use Rattle.mailbox.specs.Rules.{delivery, applied, rules}
-use Rattle.mailbox.proofs.Laws.{form-parts, k-most, formed-at, bounded-at, delivery-may, places}
-
--- what holds of the old element and of the new holds at each place after one is stored, be the place in the list or not
-set-holds : {A : Type 0} (P : A → Type 0) (l : List A) (i : ℕ) (v d : A) (j : ℕ) → P v → P (getD l j d) → P (getD (set l i v) j d)
-set-holds P l i v d j new old =
-    by-bool (ltb i (length l))
-    (λ t. by-eq j i
-    (λ e. subst P (sym (ap (λ (n : ℕ). getD (set l i v) n d) e ∙ getD-set-same l i v d (ltb-true i (length l) t))) new)
-    (λ n. subst P (sym (getD-set-other l i j v d n)) old))
-    (λ f. subst P (sym (ap (λ (m : List _). getD m j d) (set-out l i v (ltb-false i (length l) f)))) old)
+use Rattle.mailbox.specs.Receivers.{receiverMade, boxesMade}
+use Rattle.mailbox.proofs.Laws.{form-parts, k-most, formed-at, bounded-at, posted-bounded, taken-parent, delivery-may, places}
 
 -- a mailbox after a delivery is as it was, empty, or holds a start
-module _ (P : Mailbox → Type 0) (x y : ℕ) where
-  put-holds : (boxes : List Slot) (s r : ℕ) (b : Mailbox) → P b → P (boxAt boxes x y) → P (boxAt (putBox boxes s r b) x y)
-  put-holds boxes s r b new old = set-holds (λ (slot : Slot). P (slot .content)) boxes (place s r) (slotOf b) (slotOf Empty) (place x y) new old
+module _ (P : Mailbox → Type 0) (x y : ℕ) (hx : x < 64) (hy : y < 64) where
+  put-holds : (boxes : List ℕ) → length boxes ≡ 4224 → (s r : ℕ) → s < 64 → r < 64 → (b : Mailbox) → P b → P (boxAt boxes x y)
+      → P (boxAt (withBox boxes s r b) x y)
+  put-holds boxes long s r hs hr b new old =
+      subst P (sym (box-after boxes long s hs x hx r hr y hy b)) (by-bool (eqb x s && eqb y r) (λ t. rw t new) (λ f. rw f old))
 
   module _ (start : P (Full Start)) where
-    starts-hold : (boxes : List Slot) (s stations n : ℕ) → P (boxAt boxes x y) → P (boxAt (startsPosted boxes s stations n) x y)
-    unfolding startsPosted
-    starts-hold boxes s stations zero old = old
-    starts-hold boxes s stations (suc n) old =
-        let before = starts-hold boxes s stations n old in
-        by-bool (member n stations)
-        (λ t. rw t (put-holds (startsPosted boxes s stations n) s n (Full Start) start before))
-        (λ f. rw f before)
+    starts-hold : (boxes : List ℕ) → length boxes ≡ 4224 → (s stations : ℕ) → s < 64 → P (boxAt boxes x y) → P (boxAt (startsPosted boxes s stations) x y)
+    starts-hold boxes long s stations hs old =
+        subst P (sym (box-after-starts boxes long s hs x hx stations y)) (by-bool (eqb x s && member y stations) (λ t. rw t start) (λ f. rw f old))
 
-    after-holds : (boxes : List Slot) (from to : ℕ) (receiver : Station) → P Empty → P (boxAt boxes x y) → P (boxAt (boxesAfter boxes from to receiver) x y)
+    after-holds : (boxes : List ℕ) → length boxes ≡ 4224 → (from to : ℕ) → from < 64 → to < 64 → (receiver : Station) → P Empty → P (boxAt boxes x y)
+        → P (boxAt (boxesAfter boxes from to receiver) x y)
     unfolding boxesAfter
-    after-holds boxes from to receiver none old =
-        let emptied = put-holds boxes from to Empty none old in
+    after-holds boxes long from to hf ht receiver none old =
+        let emptied = put-holds boxes long from to hf ht Empty none old in
         by-bool (eqb (receiver .state) asleep)
-        (λ t. rw t (starts-hold (putBox boxes from to Empty) to (without from (receiver .unstarted)) 64 emptied))
+        (λ t. rw t (starts-hold (withBox boxes from to Empty) (length-box boxes from to Empty ∙ long) to (without from (receiver .unstarted)) ht emptied))
         (λ f. rw f emptied)
+
+-- the lengths stay
+pub length-after : (boxes : List ℕ) (from to : ℕ) (receiver : Station) → length (boxesAfter boxes from to receiver) ≡ length boxes
+unfolding boxesAfter
+length-after boxes from to receiver =
+    by-bool (eqb (receiver .state) asleep)
+    (λ t. rw t (length-starts (withBox boxes from to Empty) to _ ∙ length-box boxes from to Empty))
+    (λ f. rw f (length-box boxes from to Empty))
+
+length-delivered : (t : Config) (boxes : List ℕ) (from to : ℕ) (receiver : Station) → length (boxesDelivered t boxes from to receiver) ≡ length boxes
+unfolding boxesSettled
+length-delivered t boxes from to receiver =
+    by-bool (mustAnswer t to (taken t from (boxAt boxes from to) receiver))
+    (λ e. rw e (length-box (boxesAfter boxes from to receiver) to _ _ ∙ length-after boxes from to receiver))
+    (λ e. rw e (length-after boxes from to receiver))
+
+pub length-made : (t : Config) (boxes : List ℕ) (s : Step) (receiver : Station) → length (boxesMade t boxes s receiver) ≡ length boxes
+length-made t boxes s receiver =
+    by-bool (eqb (s .kind) delivery) (λ e. rw e (length-delivered t boxes (s .sender) (s .receiver) receiver)) (λ e. rw e)
+
+-- an allowed step, in the two parts that the code makes
+pub applied-is : (net : Net) (s : Step) → let r = station net (s .receiver) in
+    applied net s
+    ≡ record {
+      config = net .config;
+      stations = set (net .stations) (s .receiver) (receiverMade (net .config) (net .boxes) s r);
+      boxes = boxesMade (net .config) (net .boxes) s r;
+    }
+unfolding applied delivered reported
+applied-is net s = by-bool (eqb (s .kind) delivery) (λ e. rw e) (λ e. rw e)
 
 -- the mailbox from x to y is bounded, if it is one of two different stations
 abbrev Bounds : Config → ℕ → ℕ → Mailbox → Type 0
 Bounds t x y b = (eqb x y || mailboxBounded t b) ≡ true
 
-bounded-all : (t : Config) (boxes : List Slot) → ((x y : ℕ) → x < t .k → y < t .k → Bounds t x y (boxAt boxes x y)) → areBounded t boxes ≡ true
+bounded-all : (t : Config) (boxes : List ℕ) → ((x y : ℕ) → x < t .k → y < t .k → Bounds t x y (boxAt boxes x y)) → areBounded t boxes ≡ true
 unfolding areBounded
 bounded-all t boxes h = all-below _ (t .k) (λ x lx. all-below _ (t .k) (λ y ly. h x y lx ly))
 
@@ -128,7 +148,7 @@ and-implied : (a b : Bool) → (a ≡ true → b ≡ true) → (a && b) ≡ a
 and-implied true b h = h refl
 and-implied false b h = refl
 
-module _ (net : Net) (f : wellFormed net ≡ true) (to : ℕ) (ht : to < net .config .k) where
+module _ (net : Net) (long : length (net .boxes) ≡ 4224) (f : wellFormed net ≡ true) (to : ℕ) (ht : to < net .config .k) where
   abbrev t : Config
   t = net .config
 
@@ -142,7 +162,7 @@ module _ (net : Net) (f : wellFormed net ≡ true) (to : ℕ) (ht : to < net .co
   abbrev bounded-there : Station → Bool
   bounded-there s = bounded t (stationAt (placed s) to .held)
 
-  placed-decides : (s : Station) (boxes : List Slot) → Decides t to s → (bounded-there s ≡ true → areBounded t boxes ≡ true)
+  placed-decides : (s : Station) (boxes : List ℕ) → Decides t to s → (bounded-there s ≡ true → areBounded t boxes ≡ true)
       → (areWellFormed t (placed s) && areBounded t boxes) ≡ bounded-there s
   placed-decides s boxes d h =
       ap (λ (b : Bool). b && areBounded t boxes) (replaced-bounded t (net .stations) (form-parts net f .0) to s ht d)
@@ -159,8 +179,19 @@ module _ (net : Net) (f : wellFormed net ≡ true) (to : ℕ) (ht : to < net .co
     abbrev after : Station
     after = taken t from (boxAt (net .boxes) from to) (station net to)
 
-    abbrev boxes : List Slot
+    abbrev boxes : List ℕ
     boxes = boxesAfter (net .boxes) from to (station net to)
+
+    low : (from < 64) × (to < 64)
+    low = omega (arith, k-most net f)
+
+    parent-low : after .parent < 64
+    parent-low =
+        let old : station net to .parent < 64 = omega (arith, formed-at net f to ht .parent-below, k-most net f) in
+        taken-parent (λ (p : ℕ). p < 64) t from (boxAt (net .boxes) from to) (station net to) (low .0) old
+
+    below : (x : ℕ) → x < t .k → x < 64
+    below x l = omega (arith, k-most net f)
 
     after-decides : Decides t to after
     after-decides = taken-decides t to (station net to) formed from (k-most net f) hf apart (boxAt (net .boxes) from to)
@@ -178,38 +209,50 @@ module _ (net : Net) (f : wellFormed net ≡ true) (to : ℕ) (ht : to < net .co
 
     boxes-bounded : (x y : ℕ) → x < t .k → y < t .k → Bounds t x y (boxAt boxes x y)
     boxes-bounded x y lx ly =
-        after-holds (Bounds t x y) x y (or-right (eqb x y) true refl) (net .boxes) from to (station net to) (or-right (eqb x y) true refl)
-        (bounded-at net f x y lx ly)
+        after-holds (Bounds t x y) x y (below x lx) (below y ly) (or-right (eqb x y) true refl) (net .boxes) long from to (low .0) (low .1) (station net to)
+        (or-right (eqb x y) true refl) (bounded-at net f x y lx ly)
 
     delivery-decides : wellFormed (delivered net from to) ≡ bounded (delivered net from to .config) (station (delivered net from to) to .held)
-    unfolding wellFormed delivered settled
+    unfolding wellFormed delivered boxesSettled withBox
     delivery-decides =
         by-bool (mustAnswer t to after)
         (λ e. rw e
         (placed-decides (ended after) _ (ended-decides t to after after-decides) (λ h.
         bounded-all t _ (λ x y lx ly.
-        put-holds (Bounds t x y) x y boxes to (after .parent) (Full (Answer (after .held)))
+        put-holds (Bounds t x y) x y (below x lx) (below y ly) boxes (length-after (net .boxes) from to (station net to) ∙ long) to (after .parent) (low .1) parent-low
+        (Full (Answer (after .held)))
         (or-right (eqb x y) (bounded t (after .held)) (bounded-after (ended after) refl h)) (boxes-bounded x y lx ly)))))
         (λ e. rw e (placed-decides after boxes after-decides (λ h. bounded-all t boxes boxes-bounded)))
 
 -- the form after an allowed step
-formed-after : (net : Net) (s : Step) → wellFormed net ≡ true → allowed rules net s ≡ true
+formed-after : (net : Net) (s : Step) → length (net .boxes) ≡ 4224 → wellFormed net ≡ true → allowed rules net s ≡ true
     → wellFormed (rules .apply net s) ≡ bounded (rules .apply net s .config) (station (rules .apply net s) (s .receiver) .held)
 unfolding applied
-formed-after net s f a =
+formed-after net s long f a =
     let p = allowed-parts rules net s a in
     let b = range-bounds rules net s (p .0) in
     by-eq (s .kind) delivery
     (λ e.
     let may = delivery-may net s e (p .1) in
     rw (eq-eqb (s .kind) delivery e)
-    (delivery-decides net f (s .receiver) (b .receiver-low) (s .sender) (b .sender-low) (eqb-false (s .sender) (s .receiver) (may .0)) (may .1)))
-    (λ n. rw (ne-eqb (s .kind) delivery n) (report-decides net f (s .receiver) (b .receiver-low)))
+    (delivery-decides net long f (s .receiver) (b .receiver-low) (s .sender) (b .sender-low) (eqb-false (s .sender) (s .receiver) (may .0)) (may .1)))
+    (λ n. rw (ne-eqb (s .kind) delivery n) (report-decides net long f (s .receiver) (b .receiver-low)))
 
--- an allowed step: its receiver has a place, and what that holds decides on the form of the net after it
-module _ (net : Net) (s : Step) (f : wellFormed net ≡ true) (a : allowed rules net s ≡ true) where
-  pub receiver-placed : s .receiver < 64
-  receiver-placed = places net f s (allowed-parts rules net s a .0) .1
+-- what an allowed step finds: places for both stations and for the receiver's parent, and sums that are bounded
+pub step-receives : (net : Net) (s : Step) → wellFormed net ≡ true → allowed rules net s ≡ true
+    → ((s .sender < 64) × ((s .receiver < 64) × (station net (s .receiver) .parent < 64)))
+    × ((bounded (net .config) (station net (s .receiver) .held) ≡ true)
+    × (s .kind ≡ delivery → mailboxBounded (net .config) (boxAt (net .boxes) (s .sender) (s .receiver)) ≡ true))
+step-receives net s f a =
+    let p = allowed-parts rules net s a in
+    let b = range-bounds rules net s (p .0) in
+    let old = formed-at net f (s .receiver) (b .receiver-low) in
+    let low = places net f s (p .0) in (
+      (low .0, (low .1, omega (arith, k-most net f, old .parent-below))),
+      (old .held-bounded, λ kind. posted-bounded net f (s .sender) (s .receiver) (b .sender-low) (b .receiver-low) (delivery-may net s kind (p .1) .0)),
+    )
 
+-- what the receiver of an allowed step holds decides on the form of the net after it
+module _ (net : Net) (s : Step) (long : length (net .boxes) ≡ 4224) (f : wellFormed net ≡ true) (a : allowed rules net s ≡ true) where
   pub next-formed : {next : Net} → next ≡ rules .apply net s → wellFormed next ≡ bounded (next .config) (station next (s .receiver) .held)
-  next-formed e = subst (λ (x : Net). wellFormed x ≡ bounded (x .config) (station x (s .receiver) .held)) (sym e) (formed-after net s f a)
+  next-formed e = subst (λ (x : Net). wellFormed x ≡ bounded (x .config) (station x (s .receiver) .held)) (sym e) (formed-after net s long f a)

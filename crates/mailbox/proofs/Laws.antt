@@ -1,5 +1,6 @@
 -- What a well-formed net and an allowed step say of the two stations and of the mailbox between them. Assumes nothing.
 use mathlib.Core.Path.{_≡_}
+use mathlib.Core.List.{List}
 use mathlib.Core.Bool.{true, false, not, _||_}
 use Prim.Native.Nat.{ℕ, _≤_, _<_}
 use native.Mathlib.Omega.{arith}
@@ -8,6 +9,7 @@ use borrow.Author.Tests.{eq-eqb, le-leb, not-true}
 use Rattle.finite.specs.Below.{allBelow}
 use Rattle.finite.proofs.Cases.{clash, by-bool, by-sum, and-both, or-cases}
 use Rattle.finite.proofs.Below.{all-below-at}
+use Rattle.bitset.specs.Set.{member}
 use Rattle.aggregate.specs.declared.Config.{Config}
 use Rattle.aggregate.specs.Aggregate.{rootOf, valid}
 use Rattle.aggregate.proofs.Laws.{valid-k, root-below}
@@ -23,12 +25,11 @@ use Rattle.topology.specs.Answer.{accepted}
 use Rattle.linemap.specs.declared.Map.{Map}
 use Rattle.linemap.specs.Maps.{configOf, acceptance}
 use Rattle.linemap.proofs.Accepted.{map-web}
-use Rattle.slot.specs.declared.Mailbox.{Mailbox}
-use Rattle.slot.specs.declared.Mailbox.the-variants.{Empty, Full}
-use Rattle.slot.specs.declared.Message.the-variants.{Start, Answer}
-use Rattle.slot.specs.Slot.{mailboxBounded}
-use Rattle.mailbox.specs.declared.Net.{Net}
-use Rattle.mailbox.specs.Net.{station, boxAt, areBounded, wellFormed}
+use Rattle.mail.specs.declared.Mailbox.{Mailbox}
+use Rattle.mail.specs.declared.Mailbox.the-variants.{Empty, Full}
+use Rattle.mail.specs.declared.Message.the-variants.{Start, Answer}
+use Rattle.mail.specs.Mail.{mailboxBounded, startsOf, answersOf, boxAt}
+use Rattle.mailbox.specs.Net.{Net, station, areBounded, wellFormed}
 use Rattle.mailbox.specs.Delivery.{takesFrom, taken}
 use Rattle.mailbox.specs.Rules.{delivery, mayStep, rules}
 
@@ -49,6 +50,9 @@ module _ (net : Net) (f : wellFormed net ≡ true) where
   pub k-most : net .config .k ≤ 64
   k-most = valid-k (net .config) (config-valid (net .config) (net .stations) (form-parts .0)) .1
 
+  pub root-placed : rootOf (net .config) < 64
+  root-placed = omega (arith, k-most, root-below (net .config) (config-valid (net .config) (net .stations) (form-parts .0)))
+
   pub formed-at : (i : ℕ) → i < net .config .k → WellFormed (net .config) i (station net i)
   formed-at i l = facts (net .config) i (station net i) (well-formed-at (net .config) (net .stations) (form-parts .0) i l)
 
@@ -66,6 +70,11 @@ module _ (net : Net) (f : wellFormed net ≡ true) where
 
   pub places : (s : Step) → inRange rules net s ≡ true → (s .sender < 64) × (s .receiver < 64)
   places s r = let b = range-bounds rules net s r in omega (arith, b .sender-low, b .receiver-low, k-most)
+
+-- where no answer waits there is no sum
+pub unanswered : (t : Config) (boxes : List ℕ) (s r : ℕ) → member r (answersOf boxes s) ≡ false → mailboxBounded t (boxAt boxes s r) ≡ true
+unfolding boxAt
+unanswered t boxes s r none = by-bool (member r (startsOf boxes s)) (λ e. rw e) (λ e. rw (e, none))
 
 -- whoever takes a message has the sender or its old parent as its parent
 pub taken-parent : (P : ℕ → Type 0) (t : Config) (from : ℕ) (box : Mailbox) (s : Station) → P from → P (s .parent) → P (taken t from box s .parent)

@@ -1,8 +1,10 @@
-pub mod RowSets
 pub mod Laws
-pub mod Posting
+pub mod RowSets
 pub mod Delivered
 pub mod Starting
 pub mod Places
 pub mod FormAfter
+pub mod Following
+pub mod Going
 pub mod Examples
+pub mod Testing

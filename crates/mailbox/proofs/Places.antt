@@ -20,8 +20,8 @@ use Rattle.schedule.specs.declared.Step.{Step}
 use Rattle.schedule.specs.Calls.{Call, callsMade, callsNet}
 use Rattle.schedule.proofs.Listing.{range-bounds, listed-allowed}
 use Rattle.schedule.proofs.Made.{Listed, calls-make}
-use Rattle.mailbox.specs.declared.Net.{Net}
-use Rattle.mailbox.specs.Net.{station, boxAt, wellFormed}
+use Rattle.mail.specs.Mail.{boxAt}
+use Rattle.mailbox.specs.Net.{Net, station, wellFormed}
 use Rattle.mailbox.specs.Delivery.{mustAnswer, delivered, reported}
 use Rattle.mailbox.specs.Rules.{delivery, applied, rules}
 use Rattle.schedule.proofs.Answers.{allowed-parts}
@@ -39,7 +39,7 @@ used k x y u hx hy n = by-sum u (λ p. omega arith) (λ v. by-sum v (λ p. omega
 pub record Keeps (m n : Net) : Type 0 where
   pub config : n .config ≡ m .config
   pub stations : (x : ℕ) → m .config .k ≤ x → station n x ≡ station m x
-  pub boxes : (x y : ℕ) → y < 64 → Unused (m .config .k) x y → boxAt (n .boxes) x y ≡ boxAt (m .boxes) x y
+  pub boxes : (x y : ℕ) → x < 64 → y < 64 → Unused (m .config .k) x y → boxAt (n .boxes) x y ≡ boxAt (m .boxes) x y
 
 module _ (net : Net) (shaped : Shaped net) (f : wellFormed net ≡ true) (from to : ℕ) (hf : from < net .config .k) (ht : to < net .config .k) (apart : from ≡ to → ⊥) where
   low : (from < 64) × (to < 64)
@@ -102,8 +102,8 @@ module _ (net : Net) (shaped : Shaped net) (f : wellFormed net ≡ true) (from t
         config = delivered-config net shaped from to (low .0) (low .1);
         stations = λ x past.
             station-after-delivery net shaped from to (low .0) (low .1) x ∙ rw (ne-eqb x to (λ e. omega arith));
-        boxes = λ x y hy u.
-            box-after-delivery net shaped from to (low .0) (low .1) (omega (arith, parent-below, k-most net f)) x y hy apart
+        boxes = λ x y hx hy u.
+            box-after-delivery net shaped from to (low .0) (low .1) (omega (arith, parent-below, k-most net f)) x y hx hy apart
             ∙ rw (not-emptied x y u, not-answered x y u, not-started x y u);
       }
 
@@ -113,7 +113,7 @@ report-keeps net shaped root low below =
     record {
       config = refl;
       stations = λ x past. station-after-report net shaped root low x ∙ rw (ne-eqb x root (λ e. omega arith));
-      boxes = λ x y hy u. refl;
+      boxes = λ x y hx hy u. refl;
     }
 
 -- a step that is made
@@ -140,11 +140,11 @@ keeps-then l m n p q =
     record {
       config = q .config ∙ p .config;
       stations = λ x past. q .stations x (rw (p .config) past) ∙ p .stations x past;
-      boxes = λ x y hy u. q .boxes x y hy (rw (p .config) u) ∙ p .boxes x y hy u;
+      boxes = λ x y hx hy u. q .boxes x y hx hy (rw (p .config) u) ∙ p .boxes x y hx hy u;
     }
 
 steps-keep : (steps : List Step) (net : Net) → Shaped net → Runs (Listed rules) (rules .apply) net steps → Keeps net (reached (rules .apply) net steps)
-steps-keep [] net shaped runs = record { config = refl; stations = λ x past. refl; boxes = λ x y hy u. refl }
+steps-keep [] net shaped runs = record { config = refl; stations = λ x past. refl; boxes = λ x y hx hy u. refl }
 steps-keep (s ∷ l) net shaped runs =
     let one = step-keeps net shaped s (runs .0) in
     keeps-then net (applied net s) (reached (rules .apply) (applied net s) l) (one .0) (steps-keep l (applied net s) (one .1) (runs .1))

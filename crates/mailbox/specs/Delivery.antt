@@ -9,13 +9,12 @@ use Rattle.aggregate.specs.declared.Config.{Config}
 use Rattle.aggregate.specs.Aggregate.{rootOf}
 use Rattle.station.specs.declared.Station.{Station}
 use Rattle.station.specs.Events.{asleep, active, startTaken, answerTaken, ended}
-use Rattle.slot.specs.declared.Message.{Message}
-use Rattle.slot.specs.declared.Message.the-variants.{Start, Answer}
-use Rattle.slot.specs.declared.Mailbox.{Mailbox}
-use Rattle.slot.specs.declared.Mailbox.the-variants.{Empty, Full}
-use Rattle.slot.specs.declared.Slot.{Slot}
-use Rattle.mailbox.specs.declared.Net.{Net}
-use Rattle.mailbox.specs.Net.{station, boxAt, putBox, posted, startsPosted}
+use Rattle.mail.specs.declared.Message.{Message}
+use Rattle.mail.specs.declared.Message.the-variants.{Start, Answer}
+use Rattle.mail.specs.declared.Mailbox.{Mailbox}
+use Rattle.mail.specs.declared.Mailbox.the-variants.{Empty, Full}
+use Rattle.mail.specs.Mail.{boxAt, withBox, startsPosted}
+use Rattle.mailbox.specs.Net.{Net, station}
 
 -- "A start is taken asleep or active, an answer only active"
 abbrev pub takesMessage : Station → Message → Bool
@@ -47,28 +46,41 @@ taken t from Empty s = s
 taken t from (Full m) s = messageTaken t from m s
 
 -- a delivery "empties it"; on waking the receiver "posts a start to every neighbour but the parent"
-unfoldable pub boxesAfter : List Slot → ℕ → ℕ → Station → List Slot
+unfoldable pub boxesAfter : List ℕ → ℕ → ℕ → Station → List ℕ
 boxesAfter boxes from to receiver =
     cond (eqb (receiver .state) asleep)
-    (startsPosted (putBox boxes from to Empty) to (without from (receiver .unstarted)) 64)
-    (putBox boxes from to Empty)
+    (startsPosted (withBox boxes from to Empty) to (without from (receiver .unstarted)))
+    (withBox boxes from to Empty)
 
 -- "After any delivery, a receiver other than 0 with waits zero posts its sum as an answer to its parent and is finished"
 abbrev pub mustAnswer : Config → ℕ → Station → Bool
 mustAnswer t to s = not (eqb to (rootOf t)) && eqb (s .waits) 0
 
--- then it "is finished", with its sum in the mailbox to its parent; any other receiver stays as the message left it
-unfoldable pub settled : Config → List Station → List Slot → ℕ → Station → Net
-settled t stations boxes to s =
-    cond (mustAnswer t to s)
-    (record { config = t; stations = set stations to (ended s); boxes = posted boxes to (s .parent) (Answer (s .held)) })
-    (record { config = t; stations = set stations to s; boxes = boxes })
+-- then it "is finished"; any other receiver stays as the message left it
+abbrev pub settled : Config → ℕ → Station → Station
+settled t to s = cond (mustAnswer t to s) (ended s) s
+
+-- and its sum is in the mailbox to its parent
+unfoldable pub boxesSettled : Config → List ℕ → ℕ → Station → List ℕ
+boxesSettled t boxes to s = cond (mustAnswer t to s) (withBox boxes to (s .parent) (Full (Answer (s .held)))) boxes
+
+-- the receiver after a delivery, of what the mailboxes held
+abbrev pub receiverAfter : Config → List ℕ → ℕ → ℕ → Station → Station
+receiverAfter t boxes from to receiver = settled t to (taken t from (boxAt boxes from to) receiver)
+
+-- the mailboxes after a delivery
+abbrev pub boxesDelivered : Config → List ℕ → ℕ → ℕ → Station → List ℕ
+boxesDelivered t boxes from to receiver =
+    boxesSettled t (boxesAfter boxes from to receiver) to (taken t from (boxAt boxes from to) receiver)
 
 -- the net after a delivery
 unfoldable pub delivered : Net → ℕ → ℕ → Net
 delivered net from to =
-    settled (net .config) (net .stations) (boxesAfter (net .boxes) from to (station net to)) to
-    (taken (net .config) from (boxAt (net .boxes) from to) (station net to))
+    record {
+      config = net .config;
+      stations = set (net .stations) to (receiverAfter (net .config) (net .boxes) from to (station net to));
+      boxes = boxesDelivered (net .config) (net .boxes) from to (station net to);
+    }
 
 -- "Report: desk active, waits zero; it becomes finished"
 abbrev pub mayReport : Station → Bool

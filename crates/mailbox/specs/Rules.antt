@@ -7,9 +7,9 @@ use Rattle.aggregate.specs.Aggregate.{rootOf}
 use Rattle.station.specs.declared.Station.{Station}
 use Rattle.schedule.specs.declared.Step.{Step}
 use Rattle.schedule.specs.Rules.{Rules}
-use Rattle.slot.specs.declared.Mailbox.{Mailbox}
-use Rattle.mailbox.specs.declared.Net.{Net}
-use Rattle.mailbox.specs.Net.{station, boxAt, wellFormed}
+use Rattle.mail.specs.declared.Mailbox.{Mailbox}
+use Rattle.mail.specs.Mail.{boxAt}
+use Rattle.mailbox.specs.Net.{Net, station, wellFormed}
 use Rattle.mailbox.specs.Delivery.{mayDeliver, mayReport, delivered, reported}
 
 -- "Delivery is kind 1"

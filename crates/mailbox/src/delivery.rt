@@ -1,24 +1,21 @@
 // A step of stations with mail: whether it is in range and allowed, and the net after it (document 01, "Stations with mail").
 use crate::DELIVERY;
 use crate::KINDS;
-use crate::Net;
 use crate::REPORT;
 use aggregate::Config;
+use mail::Mailbox;
+use mail::Message;
 use schedule::Step;
-use slot::Mailbox;
-use slot::Message;
-use slot::Slot;
 use station::Station;
 ghost use mathlib.Core.Path.{_≡_};
-ghost use mathlib.Core.Bool.{true, false};
+ghost use mathlib.Core.Bool.{true};
 ghost use Prim.Native.Nat.{_<_};
-ghost use lib.Dec.{eqb};
 ghost use Rattle.aggregate.specs.Aggregate.{rootOf, bounded};
-ghost use Rattle.slot.specs.Slot.{mailboxBounded};
-ghost use Rattle.schedule.specs.Rules.{stepInRange, allowed};
-ghost use Rattle.mailbox.specs.Net.{withBoxes, startsPosted, wellFormed};
-ghost use Rattle.mailbox.specs.Delivery.{takesFrom, mayDeliver, mayReport, awakened, taken, mustAnswer, delivered, reported};
-ghost use Rattle.mailbox.specs.Rules.{kinds, report, mayStep, applied, rules};
+ghost use Rattle.schedule.specs.Rules.{stepInRange};
+ghost use Rattle.mail.specs.Mail.{mailboxBounded, boxAt};
+ghost use Rattle.mailbox.specs.Delivery.{takesFrom, mayDeliver, mayReport, awakened, taken, mustAnswer, receiverAfter, boxesDelivered};
+ghost use Rattle.mailbox.specs.Rules.{kinds, delivery, report, mayStep};
+ghost use Rattle.mailbox.specs.Receivers.{receiverMade, boxesMade};
 
 pub(crate) fn is_in_range(t: Config, step: Step) -> bool
     ensures { λ r. ⌜ r ≡ stepInRange kinds report (t .k) (rootOf t) step ⌝ }
@@ -27,11 +24,10 @@ pub(crate) fn is_in_range(t: Config, step: Step) -> bool
 }
 
 // Whether the receiver takes what the mailbox holds.
-fn takes(receiver: Station, slot: Slot) -> bool
-    ensures { λ r. ⌜ r ≡ takesFrom receiver (slot .content) ⌝ }
+fn takes(receiver: Station, content: Mailbox) -> bool
+    ensures { λ r. ⌜ r ≡ takesFrom receiver content ⌝ }
 {
     let state = receiver.state;
-    let content = slot.content;
     match content {
         Mailbox::Empty => false,
         Mailbox::Full(message) => match message {
@@ -42,10 +38,10 @@ fn takes(receiver: Station, slot: Slot) -> bool
 }
 
 // Whether what is in the mailbox between two stations may be delivered.
-pub(crate) fn may_deliver(from: u8, to: u8, receiver: Station, slot: Slot) -> bool
-    ensures { λ r. ⌜ r ≡ mayDeliver from to receiver (slot .content) ⌝ }
+pub(crate) fn may_deliver(from: u8, to: u8, receiver: Station, content: Mailbox) -> bool
+    ensures { λ r. ⌜ r ≡ mayDeliver from to receiver content ⌝ }
 {
-    !(from == to) & takes(receiver, slot)
+    !(from == to) & takes(receiver, content)
 }
 
 // Whether the root may report.
@@ -56,12 +52,12 @@ pub(crate) fn may_report(root: Station) -> bool
 }
 
 // Whether the step's receiver, and what is in the mailbox to it, let the step be made.
-pub(crate) fn may_step(step: Step, receiver: Station, slot: Slot) -> bool
-    ensures { λ r. ⌜ r ≡ mayStep step receiver (slot .content) ⌝ }
+pub(crate) fn may_step(step: Step, receiver: Station, content: Mailbox) -> bool
+    ensures { λ r. ⌜ r ≡ mayStep step receiver content ⌝ }
 {
     let kind = step.kind;
     match kind {
-        DELIVERY => may_deliver(step.sender, step.receiver, receiver, slot),
+        DELIVERY => may_deliver(step.sender, step.receiver, receiver, content),
         REPORT => may_report(receiver),
         0 | 3..=255 => false,
     }
@@ -77,11 +73,10 @@ fn awaken(receiver: Station, from: u8) -> Station
 }
 
 // The receiver after it took what the mailbox holds.
-fn take(t: Config, from: u8, slot: Slot, receiver: Station) -> Station
-    requires { ⌜ (bounded t (receiver .held) ≡ true) × (mailboxBounded t (slot .content) ≡ true) ⌝ }
-    ensures { λ r. ⌜ r ≡ taken t from (slot .content) receiver ⌝ }
+fn take(t: Config, from: u8, content: Mailbox, receiver: Station) -> Station
+    requires { ⌜ (bounded t (receiver .held) ≡ true) × (mailboxBounded t content ≡ true) ⌝ }
+    ensures { λ r. ⌜ r ≡ taken t from content receiver ⌝ }
 {
-    let content = slot.content;
     match content {
         Mailbox::Empty => receiver,
         Mailbox::Full(message) => match message {
@@ -95,79 +90,53 @@ fn take(t: Config, from: u8, slot: Slot, receiver: Station) -> Station
     }
 }
 
-// The net after a station posted a start to every station in the set.
-pub(crate) fn post_starts(net: Net, from: usize, stations: u64) -> Net
-    requires { ⌜ from < 64 ⌝ }
-    ensures { λ r. ⌜ r ≡ withBoxes net (startsPosted (net .boxes) from stations 64) ⌝ }
-{
-    let mut next = net;
-    let mut to: u8 = 0;
-    while to < 64 {
-        if bitset::contains(stations, to) {
-            let at = from * 64 + (to as usize);
-            next.boxes[at] = slot::start();
-        }
-        to += 1;
-    }
-    next
-}
-
 // Whether a receiver, after it took a message, has nothing left to wait for, and is not the root.
-fn must_answer(t: Config, to: usize, s: Station) -> bool
+fn must_answer(t: Config, to: u8, s: Station) -> bool
     ensures { λ r. ⌜ r ≡ mustAnswer t to s ⌝ }
 {
-    let root = aggregate::root(t);
-    !(to == root as usize) & (s.waits == 0)
+    !(to == aggregate::root(t)) & (s.waits == 0)
 }
 
-// A delivery: the mailbox is emptied, and the receiver takes the message. One that was asleep posts its starts; one with nothing left to wait
-// for posts its sum to its parent and is finished.
-fn deliver(net: Net, from: u8, to: usize) -> Net
-    requires { ⌜ (wellFormed net ≡ true) × ((from < net .config .k) × ((to < net .config .k) × (eqb from to ≡ false))) ⌝ }
-    ensures { λ r. ⌜ r ≡ delivered net from to ⌝ }
+// A delivery, in place: the mailbox is emptied, and the receiver takes the message. One that was asleep posts its starts; one with nothing
+// left to wait for posts its sum to its parent and is finished. It answers the receiver after that; no other station changes.
+pub(crate) fn deliver(
+    t: Config,
+    boxes: &mut [u64; 4224],
+    from: u8,
+    to: u8,
+    receiver: Station,
+) -> Station
+    requires places { ⌜ (from < 64) × ((to < 64) × (receiver .parent < 64)) ⌝ }
+    requires sums { ⌜ (bounded t (receiver .held) ≡ true) × (mailboxBounded t (boxAt (now boxes) from to) ≡ true) ⌝ }
+    ensures receiver { λ r. ⌜ r ≡ receiverAfter t (now (boxes .entry)) from to receiver ⌝ }
+    ensures boxes { λ r. ⌜ now (boxes .exit) ≡ boxesDelivered t (now (boxes .entry)) from to receiver ⌝ }
 {
-    let t = net.config;
-    let mut next = net;
-    let receiver = next.stations[to];
-    let at = (from as usize) * 64 + to;
-    let slot = next.boxes[at];
-    let s = take(t, from, slot, receiver);
-    next.boxes[at] = slot::empty();
+    let content = mail::box_at(boxes, from, to);
+    let s = take(t, from, content, receiver);
+    mail::put_box(boxes, from, to, Mailbox::Empty);
     if receiver.state == station::ASLEEP {
         let others = bitset::without(receiver.unstarted, from);
-        next = post_starts(next, to, others);
+        mail::post_starts(boxes, to, others);
     }
     if must_answer(t, to, s) {
         let held = s.held;
-        let home = to * 64 + (s.parent as usize);
-        next.boxes[home] = slot::answer(held);
-        next.stations[to] = s.ended();
-        return next;
+        mail::put_box(boxes, to, s.parent, Mailbox::Full(Message::Answer(held)));
+        return s.ended();
     }
-    next.stations[to] = s;
-    next
+    s
 }
 
-// A report: the root is finished.
-fn report(net: Net, root: usize) -> Net
-    requires { ⌜ root < 64 ⌝ }
-    ensures { λ r. ⌜ r ≡ reported net root ⌝ }
-{
-    let s = net.stations[root];
-    let mut next = net;
-    next.stations[root] = s.ended();
-    next
-}
-
-// The net after an allowed step.
-pub(crate) fn apply(net: Net, step: Step) -> Net
-    requires { ⌜ (wellFormed net ≡ true) × (allowed rules net step ≡ true) ⌝ }
-    ensures { λ n. ⌜ n ≡ applied net step ⌝ }
+// An allowed step, in place: what it makes of its receiver.
+pub(crate) fn receive(t: Config, boxes: &mut [u64; 4224], step: Step, receiver: Station) -> Station
+    requires places { ⌜ (step .sender < 64) × ((step .receiver < 64) × (receiver .parent < 64)) ⌝ }
+    requires sums { ⌜ (bounded t (receiver .held) ≡ true)
+        × (step .kind ≡ delivery → mailboxBounded t (boxAt (now boxes) (step .sender) (step .receiver)) ≡ true) ⌝ }
+    ensures receiver { λ r. ⌜ r ≡ receiverMade t (now (boxes .entry)) step receiver ⌝ }
+    ensures boxes { λ r. ⌜ now (boxes .exit) ≡ boxesMade t (now (boxes .entry)) step receiver ⌝ }
 {
     let kind = step.kind;
-    let to = step.receiver as usize;
     match kind {
-        DELIVERY => deliver(net, step.sender, to),
-        _ => report(net, to),
+        DELIVERY => deliver(t, boxes, step.sender, step.receiver, receiver),
+        _ => receiver.ended(),
     }
 }

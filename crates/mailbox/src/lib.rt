@@ -1,4 +1,5 @@
-// Stations with mail (document 01, "Stations with mail"): a message waits in a mailbox until it is delivered.
+// Stations with mail (document 01, "Stations with mail"): a message waits in a mailbox until it is delivered. The stations go by value, the
+// mailboxes are lent, and no call copies them.
 use aggregate::Config;
 use linemap::Map;
 use refusal::Refusal;
@@ -6,19 +7,24 @@ use schedule::Answer;
 use schedule::RunAnswer;
 use schedule::Step;
 use schedule::rows::Drawn;
-use slot::Slot;
 use station::Station;
 use topology::Verdict;
 ghost use mathlib.Core.Path.{_≡_};
-ghost use mathlib.Core.Bool.{true};
-ghost use Prim.Native.Nat.{_<_, _≤_};
+ghost use mathlib.Core.Bool.{true, false, _||_};
+ghost use mathlib.Core.List.{List};
+ghost use Prim.Native.Nat.{ℕ, _<_, _≤_};
+ghost use lib.ListN.{length};
+ghost use lib.Dec.{eqb};
+ghost use Rattle.finite.specs.Below.{allBelow};
 ghost use Rattle.aggregate.specs.Aggregate.{rootOf};
+ghost use Rattle.refusal.specs.Refusal.{numberOf};
+ghost use Rattle.refusal.specs.declared.Refusal.the-variants.{OutOfForm};
 ghost use Rattle.linemap.specs.Openings.{openingOf};
-ghost use Rattle.schedule.specs.Rules.{inRange, allowed};
-ghost use Rattle.schedule.specs.Outcome.{accepted, refused, outcomeOf, runOutcomeOf};
-ghost use Rattle.schedule.specs.Draws.{stepOn, drawOn, stopped, runOn};
-ghost use Rattle.mailbox.specs.Net.{areBounded, wellFormed, freshNet};
-ghost use Rattle.mailbox.specs.Rules.{applied, rules};
+ghost use Rattle.schedule.specs.Outcome.{refused, outcomeOf, runOutcomeOf};
+ghost use Rattle.schedule.specs.Draws.{stepOn, drawOn, runOn};
+ghost use Rattle.mail.specs.Mail.{mailboxBounded, boxAt};
+ghost use Rattle.mailbox.specs.Net.{netOf, areBounded, wellFormed, freshNet};
+ghost use Rattle.mailbox.specs.Rules.{rules};
 ghost use Rattle.mailbox.specs.Opening;
 
 mod delivery;
@@ -31,75 +37,69 @@ pub const REPORT: u8 = 2;
 
 const KINDS: u8 = 2;
 
-// Stations 0 to k − 1, a mailbox for each ordered pair of different stations, and what the net was opened with. Places past k, and
-// those of a station to itself, are not used. The mailbox from s to r stands at s × 64 + r.
-pub struct Net {
+// Stations 0 to k − 1, and what the net was opened with. Places past k are not used.
+#[repr(C)]
+pub struct Line {
     pub config: Config,
     pub stations: [Station; 64],
-    pub boxes: [Slot; 4096],
 }
 
-// What a single step or a draw answers, and the net after it.
+// What a single step or a draw answers, and the stations after it.
 pub struct Stepped {
     pub answer: Answer,
-    pub net: Net,
+    pub line: Line,
 }
 
-// What a run answers, the steps made, whether the net reached is quiescent (01: at rest), and that net.
+// What a run answers, the steps made, whether the net reached is quiescent (01: at rest), and its stations.
 pub struct Ran {
     pub answer: RunAnswer,
     pub steps: usize,
     pub at_rest: bool,
-    pub net: Net,
+    pub line: Line,
 }
 
-// What opening a net on a map answers, and the net.
+// What opening a net on a map answers, and the stations.
 pub struct Opened {
     pub verdict: Verdict,
-    pub net: Net,
+    pub line: Line,
 }
 
-// The net of no stations.
-fn unopened() -> Net
+// No stations.
+fn unopened() -> Line
     ensures { λ r. ⌜ r ≡ Opening.unopened ⌝ }
 {
     let none = stations::blank();
     let stations = [none; 64];
-    let empty = slot::empty();
-    let boxes = [empty; 4096];
-    Net {
+    Line {
         config: Config { k: 0 },
         stations: stations,
-        boxes: boxes,
     }
 }
 
 // The net before the first step: a start from the root in each neighbour's mailbox.
-fn fresh_net(t: Config, counts: [u32; 64], neighbours: [u64; 64]) -> Net
+fn fresh_net(t: Config, counts: [u32; 64], neighbours: [u64; 64], boxes: &mut [u64; 4224]) -> Line
     requires { ⌜ rootOf t < 64 ⌝ }
-    ensures { λ r. ⌜ r ≡ freshNet t counts neighbours ⌝ }
+    ensures { λ r. ⌜ netOf r (now (boxes .exit)) ≡ freshNet t counts neighbours ⌝ }
 {
-    let root = aggregate::root(t) as usize;
+    let root = aggregate::root(t);
     let stations = stations::fresh_stations(t, counts, neighbours);
-    let empty = slot::empty();
-    let none = [empty; 4096];
-    let net = Net {
+    mail::clear(boxes);
+    mail::post_starts(boxes, root, neighbours[root as usize]);
+    Line {
         config: t,
         stations: stations,
-        boxes: none,
-    };
-    delivery::post_starts(net, root, neighbours[root])
+    }
 }
 
-// The fresh net of an accepted map; any other opens none.
-pub fn fresh(m: Map) -> Opened
-    ensures { λ r. ⌜ openingOf (r .verdict) (r .net) ≡ Opening.opening m ⌝ }
+// The fresh net of an accepted map; any other opens none, and leaves the mailboxes as they were.
+pub fn fresh(m: Map, boxes: &mut [u64; 4224]) -> Opened
+    ensures { λ r. ⌜ openingOf (r .verdict) (netOf (r .line) (now (boxes .exit))) ≡ Opening.opening m (now (boxes .entry)) ⌝ }
 {
     let verdict = linemap::accept(m);
     if let Verdict::Refused(fault) = verdict {
         return Opened {
             verdict: Verdict::Refused(fault),
-            net: unopened(),
+            line: unopened(),
         };
     }
     let t = linemap::config(m);
@@ -107,156 +107,199 @@ pub fn fresh(m: Map) -> Opened
     let neighbours = m.neighbours;
     Opened {
         verdict: Verdict::Accepted,
-        net: fresh_net(t, counts, neighbours),
+        line: fresh_net(t, counts, neighbours, boxes),
     }
 }
 
-// Whether the posted sums between different stations are bounded.
-fn are_bounded(net: Net) -> bool
-    requires { ⌜ net .config .k ≤ 64 ⌝ }
-    ensures { λ r. ⌜ r ≡ areBounded (net .config) (net .boxes) ⌝ }
+// Whether the posted sums of a sender are bounded. Most senders have posted none; eight receivers to whom no answer waits are passed by one test.
+fn is_row_bounded(t: Config, boxes: &[u64; 4224], s: u8) -> bool
+    requires { ⌜ (t .k ≤ 64) × (s < 64) ⌝ }
+    ensures { λ b. ⌜ b ≡ allBelow (t .k) (λ r. eqb s r || mailboxBounded t (boxAt (now (boxes .entry)) s r)) ⌝ }
 {
-    let t = net.config;
-    let k = t.k as usize;
+    let answers = boxes[64 + (s as usize)];
+    if answers == 0 {
+        return true;
+    }
+    let k = t.k;
     let mut ok = true;
-    let mut s: usize = 0;
-    while s < k {
-        let mut row = true;
-        let mut r: usize = 0;
-        while r < k {
-            let slot = net.boxes[s * 64 + r];
-            row = row & ((s == r) | slot::is_bounded(t, slot));
+    let mut r: u8 = 0;
+    while r < k {
+        if (answers >> r) % 256 == 0 {
+            r += 8;
+        } else {
+            let content = mail::box_at(boxes, s, r);
+            ok = ok & ((s == r) | mail::is_bounded(t, content));
             r += 1;
         }
-        ok = ok & row;
+    }
+    ok
+}
+
+// Whether the posted sums between different stations are bounded.
+fn are_bounded(t: Config, boxes: &[u64; 4224]) -> bool
+    requires { ⌜ t .k ≤ 64 ⌝ }
+    ensures { λ r. ⌜ r ≡ areBounded t (now (boxes .entry)) ⌝ }
+{
+    let k = t.k;
+    let mut ok = true;
+    let mut s: u8 = 0;
+    while s < k {
+        ok = ok & is_row_bounded(t, boxes, s);
         s += 1;
     }
     ok
 }
 
-fn is_well_formed(net: Net) -> bool
-    ensures { λ r. ⌜ r ≡ wellFormed net ⌝ }
+fn is_well_formed(line: Line, boxes: &[u64; 4224]) -> bool
+    ensures { λ r. ⌜ r ≡ wellFormed (netOf line (now (boxes .entry))) ⌝ }
 {
-    let t = net.config;
-    let stations = net.stations;
+    let t = line.config;
+    let stations = line.stations;
     if !stations::are_well_formed(t, stations) {
         return false;
     }
-    are_bounded(net)
+    are_bounded(t, boxes)
 }
 
-// A refusal hands the net back as it was.
-fn refuse(net: Net, why: Refusal) -> Stepped
-    ensures { λ r. ⌜ outcomeOf (r .answer) (r .net) ≡ refused why net ⌝ }
+// A refusal hands the stations back as they were, whatever the mailboxes hold.
+fn refuse(line: Line, why: Refusal) -> Stepped
+    ensures { λ r. ⌜ ((boxes : List ℕ) → outcomeOf (r .answer) (netOf (r .line) boxes) ≡ refused why (netOf line boxes)) ⌝ }
 {
     Stepped {
         answer: Answer::Refused(why),
-        net: net,
-    }
-}
-
-// Whether a step in range may be made.
-fn may_make(net: Net, step: Step) -> bool
-    requires { ⌜ (wellFormed net ≡ true) × (inRange rules net step ≡ true) ⌝ }
-    ensures { λ r. ⌜ r ≡ rules .guard net step ⌝ }
-{
-    let sender = step.sender as usize;
-    let receiver = step.receiver as usize;
-    let r = net.stations[receiver];
-    let slot = net.boxes[sender * 64 + receiver];
-    delivery::may_step(step, r, slot)
-}
-
-// An allowed step, made.
-fn make(net: Net, step: Step) -> Stepped
-    requires { ⌜ (wellFormed net ≡ true) × (allowed rules net step ≡ true) ⌝ }
-    ensures { λ r. ⌜ outcomeOf (r .answer) (r .net) ≡ accepted step (applied net step) ⌝ }
-{
-    let next = delivery::apply(net, step);
-    Stepped {
-        answer: Answer::Made(step),
-        net: next,
+        line: line,
     }
 }
 
 // One step: refused by 11, 12 or 13, or made.
-pub fn step(net: Net, step: Step) -> Stepped
-    ensures { λ r. ⌜ outcomeOf (r .answer) (r .net) ≡ stepOn rules net step ⌝ }
+pub fn step(line: Line, boxes: &mut [u64; 4224], step: Step) -> Stepped
+    ensures { λ r. ⌜ outcomeOf (r .answer) (netOf (r .line) (now (boxes .exit))) ≡ stepOn rules (netOf line (now (boxes .entry))) step ⌝ }
 {
-    if !is_well_formed(net) {
-        return refuse(net, Refusal::OutOfForm);
+    if !is_well_formed(line, boxes) {
+        return refuse(line, Refusal::OutOfForm);
     }
-    let t = net.config;
+    let t = line.config;
     if !delivery::is_in_range(t, step) {
-        return refuse(net, Refusal::OutOfRange);
+        return refuse(line, Refusal::OutOfRange);
     }
-    if !may_make(net, step) {
-        return refuse(net, Refusal::NotAllowed);
+    let to = step.receiver as usize;
+    let receiver = line.stations[to];
+    let content = mail::box_at(boxes, step.sender, step.receiver);
+    if !delivery::may_step(step, receiver, content) {
+        return refuse(line, Refusal::NotAllowed);
     }
-    make(net, step)
+    let next = delivery::receive(t, boxes, step, receiver);
+    let mut after = line;
+    after.stations[to] = next;
+    Stepped {
+        answer: Answer::Made(step),
+        line: after,
+    }
 }
 
 // The step that a draw picks, made: refused by 11, or by 14 where no step is allowed.
-pub fn draw(net: Net, d: u16) -> Stepped
-    ensures { λ r. ⌜ outcomeOf (r .answer) (r .net) ≡ drawOn rules net d ⌝ }
+pub fn draw(line: Line, boxes: &mut [u64; 4224], d: u16) -> Stepped
+    ensures { λ r. ⌜ outcomeOf (r .answer) (netOf (r .line) (now (boxes .exit))) ≡ drawOn rules (netOf line (now (boxes .entry))) d ⌝ }
 {
-    if !is_well_formed(net) {
-        return refuse(net, Refusal::OutOfForm);
+    if !is_well_formed(line, boxes) {
+        return refuse(line, Refusal::OutOfForm);
     }
-    let rows = listing::rows(net);
-    let drawn = schedule::rows::pick(&rows, KINDS, net.config.k, d);
-    match drawn {
-        Drawn::Step(step) => make(net, step),
-        Drawn::Nothing => refuse(net, Refusal::NothingAllowed),
+    let takers = listing::find_takers(line);
+    let mut rows = [0u64; 256];
+    let sizes = listing::fill_net(&mut rows, line, takers, boxes);
+    let t = line.config;
+    let drawn = schedule::rows::pick(&rows, sizes, t.k, d);
+    let Drawn::Step(step) = drawn else {
+        return refuse(line, Refusal::NothingAllowed);
+    };
+    let to = step.receiver as usize;
+    let receiver = line.stations[to];
+    let next = delivery::receive(t, boxes, step, receiver);
+    let mut after = line;
+    after.stations[to] = next;
+    Stepped {
+        answer: Answer::Made(step),
+        line: after,
     }
 }
 
-// A run that stops at a net after so many steps.
-fn stop(net: Net, steps: usize) -> Ran
-    ensures { λ r. ⌜ runOutcomeOf (r .answer) (r .steps) (r .«at_rest») (r .net) ≡ stopped rules net steps ⌝ }
+// What a run gives that stops in form.
+fn stop(line: Line, steps: usize, rest: bool) -> Ran
+    ensures { λ r. ⌜ ((boxes : List ℕ) → runOutcomeOf (r .answer) (r .steps) (r .«at_rest») (netOf (r .line) boxes)
+        ≡ record { number = 0; steps = steps; rest = rest; net = netOf line boxes }) ⌝ }
 {
-    if !is_well_formed(net) {
-        return Ran {
-            answer: RunAnswer::Refused(Refusal::OutOfForm),
-            steps: steps,
-            at_rest: false,
-            net: net,
-        };
-    }
-    let rows = listing::rows(net);
-    let c = schedule::rows::count(&rows, KINDS, net.config.k);
     Ran {
         answer: RunAnswer::Stopped,
         steps: steps,
-        at_rest: c == 0,
-        net: net,
+        at_rest: rest,
+        line: line,
     }
 }
 
-// The steps that the draws pick, one after the other, until they are used up, one is refused, or the form is left. The counter is the place
-// among the draws and the number of steps made. The form is tested once: after that, only what the receiver has gathered can break it.
-pub fn run(net: Net, draws: &[u16]) -> Ran
-    ensures { λ r. ⌜ runOutcomeOf (r .answer) (r .steps) (r .«at_rest») (r .net) ≡ runOn rules net (now (draws .entry)) ⌝ }
+// What a run gives that starts outside the form, or has left it.
+fn stop_outside(line: Line, steps: usize) -> Ran
+    ensures { λ r. ⌜ ((boxes : List ℕ) → runOutcomeOf (r .answer) (r .steps) (r .«at_rest») (netOf (r .line) boxes)
+        ≡ record { number = numberOf OutOfForm; steps = steps; rest = false; net = netOf line boxes }) ⌝ }
 {
-    if !is_well_formed(net) {
-        return stop(net, 0);
+    Ran {
+        answer: RunAnswer::Refused(Refusal::OutOfForm),
+        steps: steps,
+        at_rest: false,
+        line: line,
     }
-    let mut here = net;
+}
+
+// How many words are lent. It is called for what it tells the prover: a reference to an array does not.
+fn count_words(boxes: &[u64]) -> usize
+    ensures { λ r. ⌜ r ≡ length (now (boxes .entry)) ⌝ }
+{
+    boxes.len()
+}
+
+// The steps that the draws pick, one after the other, until they are used up, one is refused, or the form is left. The counter is the place
+// among the draws and the number of steps made. The form is tested once: after that, only what the receiver has gathered can break it. Who
+// takes a message is kept, and the rows follow each step.
+pub fn run(line: Line, boxes: &mut [u64; 4224], draws: &[u16]) -> Ran
+    ensures { λ r. ⌜ runOutcomeOf (r .answer) (r .steps) (r .«at_rest») (netOf (r .line) (now (boxes .exit))) ≡ runOn rules (netOf line (now (boxes .entry))) (now (draws .entry)) ⌝ }
+{
+    if !is_well_formed(line, boxes) {
+        return stop_outside(line, 0);
+    }
+    let words = count_words(boxes);
+    let mut here = line;
+    let mut takers = listing::find_takers(line);
+    let mut rows = [0u64; 256];
+    let mut sizes = listing::fill_net(&mut rows, line, takers, boxes);
     let mut made: usize = 0;
     while made < draws.len() {
-        let rows = listing::rows(here);
-        let drawn = schedule::rows::pick(&rows, KINDS, here.config.k, draws[made]);
+        let t = here.config;
+        let drawn = schedule::rows::pick(&rows, sizes, t.k, draws[made]);
         let Drawn::Step(step) = drawn else {
-            break;
+            return stop(here, made, true);
         };
-        let next = delivery::apply(here, step);
-        let receiver = next.stations[step.receiver as usize];
-        here = next;
+        let to = step.receiver as usize;
+        let receiver = here.stations[to];
+        let next = delivery::receive(t, boxes, step, receiver);
+        here.stations[to] = next;
         made += 1;
-        let held = receiver.held;
-        if !aggregate::is_bounded(here.config, held) {
-            break;
+        let held = next.held;
+        if !aggregate::is_bounded(t, held) {
+            return stop_outside(here, made);
         }
+        let root = here.stations[aggregate::root(t) as usize];
+        let old = takers;
+        takers = listing::retake(old, step.receiver, next);
+        sizes = listing::follow(
+            &mut rows,
+            sizes,
+            t,
+            old,
+            takers,
+            delivery::may_report(root),
+            boxes,
+            step,
+        );
     }
-    stop(here, made)
+    let c = schedule::rows::total(sizes);
+    stop(here, made, c == 0)
 }

@@ -19,12 +19,11 @@ use Rattle.aggregate.specs.Joining.{joining}
 use Rattle.wave.specs.Wave.{next, Weak}
 use Rattle.wave.specs.Wave as wave
 use Rattle.topology.specs.Acceptance.{Web}
-use Rattle.slot.specs.declared.Message.the-variants.{Start, Answer}
-use Rattle.slot.specs.declared.Mailbox.{Mailbox}
-use Rattle.slot.specs.declared.Mailbox.the-variants.{Empty, Full}
-use Rattle.slot.specs.Slot.{mailboxBounded}
-use Rattle.mailbox.specs.declared.Net.{Net}
-use Rattle.mailbox.specs.Net.{station, boxAt, areBounded, wellFormed, freshNet}
+use Rattle.mail.specs.declared.Message.the-variants.{Start, Answer}
+use Rattle.mail.specs.declared.Mailbox.{Mailbox}
+use Rattle.mail.specs.declared.Mailbox.the-variants.{Empty, Full}
+use Rattle.mail.specs.Mail.{mailboxBounded, boxAt}
+use Rattle.mailbox.specs.Net.{Net, station, areBounded, wellFormed, freshNet}
 use Rattle.mailbox.specs.Rules.{rules}
 use Rattle.mailbox.proofs.Starting.{fresh-shaped, fresh-box}
 use Rattle.order.proofs.Kind.{Ties}

@@ -24,11 +24,11 @@ use Rattle.schedule.specs.Rules.{inRange, allowed}
 use Rattle.schedule.specs.Calls.{labelOf}
 use Rattle.schedule.proofs.Listing.{Allowed, range-bounds}
 use Rattle.topology.specs.Acceptance.{Web}
-use Rattle.slot.specs.declared.Message.the-variants.{Start, Answer}
-use Rattle.slot.specs.declared.Mailbox.{Mailbox}
-use Rattle.slot.specs.declared.Mailbox.the-variants.{Empty, Full}
-use Rattle.mailbox.specs.declared.Net.{Net}
-use Rattle.mailbox.specs.Net.{station, boxAt}
+use Rattle.mail.specs.declared.Message.the-variants.{Start, Answer}
+use Rattle.mail.specs.declared.Mailbox.{Mailbox}
+use Rattle.mail.specs.declared.Mailbox.the-variants.{Empty, Full}
+use Rattle.mailbox.specs.Net.{Net, station}
+use Rattle.mail.specs.Mail.{boxAt}
 use Rattle.mailbox.specs.Delivery.{takesFrom, taken, mustAnswer, delivered, mayReport, reported}
 use Rattle.mailbox.proofs.Delivered.{Shaped, receiver, delivered-config, delivered-shaped, station-after-delivery, box-after-delivery, reported-shaped, station-after-report, box-after-report}
 use Rattle.mailbox.specs.Rules as figure
@@ -220,16 +220,16 @@ module _ (t : Config) (neighbours : List ℕ) (web : Web (rootOf t) (t .k) neigh
         (cond (eqb x r && (answers && eqb y parent)) (Full (Answer held))
         (cond (eqb x r && (eqb (station n r .state) 0 && (member y (station n r .unstarted) && not (eqb y s)))) (Full Start) (boxAt (n .boxes) x y)))
 
-    box-is : (x y : ℕ) → y < 64 → boxAt (delivered n s r .boxes) x y ≡ later x y (mustAnswer t r R) (R .parent) (R .held)
-    box-is x y hy =
+    box-is : (x y : ℕ) → x < 64 → y < 64 → boxAt (delivered n s r .boxes) x y ≡ later x y (mustAnswer t r R) (R .parent) (R .held)
+    box-is x y hx hy =
         let low : after (n .config) .parent < 64 = subst (λ (c : Config). after c .parent < 64) (sym (G .config-is)) (omega (arith, parent-low, web .few-stations)) in
-        box-after-delivery n (G .shaped) s r s-low r-low low x y hy ne
+        box-after-delivery n (G .shaped) s r s-low r-low low x y hx hy ne
         ∙ ap (λ (c : Config). later x y (mustAnswer c r (after c)) (after c .parent) (after c .held)) (G .config-is)
 
-    box-then : (x y : ℕ) → y < t .k → toBox (boxAt (delivered n s r .boxes) x y) ≡ boxThen web-graph (joining t) (view n) s r x y
-    box-then x y l =
+    box-then : (x y : ℕ) → x < t .k → y < t .k → toBox (boxAt (delivered n s r .boxes) x y) ≡ boxThen web-graph (joining t) (view n) s r x y
+    box-then x y h l =
         let answers = answersThen web-graph (view n) r in
-        ap toBox (box-is x y (omega (arith, web .few-stations)))
+        ap toBox (box-is x y (omega (arith, web .few-stations)) (omega (arith, web .few-stations)))
         ∙ ap (λ (a : Bool). toBox (later x y a (R .parent) (R .held))) must-is
         ∙ ap₂ (λ (p : ℕ) (u : Aggregate). toBox (later x y answers p u)) (T .parent-is) (T .sum-is)
         ∙ by-bool (eqb x s && eqb y r)
@@ -249,7 +249,7 @@ module _ (t : Config) (neighbours : List ℕ) (web : Web (rootOf t) (t .k) neigh
                 waitings = λ x l. field-is (λ st. st .waits) (waitsThen web-graph (view n) r) (kept (λ st. st .waits) refl ∙ T .waits-is) x;
                 states = λ x l. field-is (λ st. st .state) (cond (answersThen web-graph (view n) r) 2 1) state-then x;
               };
-          boxes = λ x y l b. box-then x y b;
+          boxes = λ x y l b. box-then x y l b;
         }
 
     delivered-good : Good (delivered n s r)

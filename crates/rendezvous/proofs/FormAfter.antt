@@ -24,7 +24,7 @@ use Rattle.rendezvous.specs.Net.{station, withOne, withTwo, wellFormed}
 use Rattle.rendezvous.specs.Figure.{wake, pass, answer, starts, wakes, finishes, mayStep, applied}
 use Rattle.rendezvous.specs.Rules.{rules}
 use Rattle.rendezvous.proofs.Guards.{wake-guard}
-use Rattle.rendezvous.proofs.Laws.{k-most, formed-at, places}
+use Rattle.rendezvous.proofs.Laws.{k-most, formed-at}
 
 -- in a net, only what station i holds decides on the form
 abbrev Decides : Net → ℕ → Type 0
@@ -89,10 +89,8 @@ formed-after net s f a =
     let r = b .report-at-root (omega (arith, eqb-false kind wake w, eqb-false kind pass p, eqb-false kind answer a, b .kind-low, b .kind-high)) in
     r .0 ∙ sym (r .1))
 
--- an allowed step: its receiver has a place, and what that holds decides on the form of the net after it
-module _ (net : Net) (s : Step) (f : wellFormed net ≡ true) (a : allowed rules net s ≡ true) where
-  pub receiver-placed : s .receiver < 64
-  receiver-placed = places net f s (allowed-parts rules net s a .0) .1
-
-  pub next-formed : {next : Net} → next ≡ rules .apply net s → wellFormed next ≡ bounded (next .config) (station next (s .receiver) .held)
-  next-formed e = subst (λ (x : Net). wellFormed x ≡ bounded (x .config) (station x (s .receiver) .held)) (sym e) (formed-after net s f a)
+-- what the receiver holds decides on the form of the net after an allowed step
+pub next-formed : (net : Net) (s : Step) → wellFormed net ≡ true → allowed rules net s ≡ true → {next : Net} → next ≡ rules .apply net s
+    → wellFormed next ≡ bounded (next .config) (station next (s .receiver) .held)
+next-formed net s f a e =
+    subst (λ (x : Net). wellFormed x ≡ bounded (x .config) (station x (s .receiver) .held)) (sym e) (formed-after net s f a)

@@ -1,7 +1,11 @@
 pub mod Guards
 pub mod RowSets
+pub mod Kept
+pub mod Filling
+pub mod Following
 pub mod Laws
 pub mod Places
 pub mod FormAfter
+pub mod Going
 pub mod Events
 pub mod Examples

@@ -1,8 +1,7 @@
-// A step of stations that meet: whether it is in range and allowed, and the net after it, by the events of its two stations (document 001,
+// A step of stations that meet: whether it is in range and allowed, and its two stations after it, by the events of its two stations (document 001,
 // Figure 2).
 use crate::ANSWER;
 use crate::KINDS;
-use crate::Net;
 use crate::PASS;
 use crate::REPORT;
 use crate::WAKE;
@@ -11,12 +10,10 @@ use schedule::Step;
 use station::Station;
 ghost use mathlib.Core.Path.{_≡_};
 ghost use mathlib.Core.Bool.{true};
-ghost use Prim.Native.Nat.{_<_};
-ghost use Rattle.aggregate.specs.Aggregate.{rootOf};
-ghost use Rattle.schedule.specs.Rules.{stepInRange, allowed};
-ghost use Rattle.rendezvous.specs.Net.{wellFormed, withTwo};
-ghost use Rattle.rendezvous.specs.Figure.{report, mayStep, applied};
-ghost use Rattle.rendezvous.specs.Rules.{kinds, rules};
+ghost use Rattle.aggregate.specs.Aggregate.{rootOf, joinable};
+ghost use Rattle.schedule.specs.Rules.{stepInRange};
+ghost use Rattle.rendezvous.specs.Figure.{report, mayStep, metBy};
+ghost use Rattle.rendezvous.specs.Rules.{kinds};
 
 pub(crate) fn is_in_range(t: Config, step: Step) -> bool
     ensures { λ r. ⌜ r ≡ stepInRange kinds report (t .k) (rootOf t) step ⌝ }
@@ -52,41 +49,39 @@ pub(crate) fn may_step(t: Config, step: Step, s: Station, r: Station) -> bool
     }
 }
 
-// The net with s at j and r at i.
-fn place(net: Net, j: usize, s: Station, i: usize, r: Station) -> Net
-    requires { ⌜ (j < 64) × (i < 64) ⌝ }
-    ensures { λ n. ⌜ n ≡ withTwo net j s i r ⌝ }
-{
-    let mut next = net;
-    next.stations[j] = s;
-    next.stations[i] = r;
-    next
+// The two stations of a step.
+pub(crate) struct Two {
+    pub(crate) sender: Station,
+    pub(crate) receiver: Station,
 }
 
-// The net after an allowed step: the sender's event and the receiver's.
-pub(crate) fn apply(net: Net, step: Step) -> Net
-    requires { ⌜ (wellFormed net ≡ true) × (allowed rules net step ≡ true) ⌝ }
-    ensures { λ n. ⌜ n ≡ applied net (step .kind) (step .sender) (step .receiver) ⌝ }
+// The two stations after a step: the sender's event and the receiver's. A report is its one station's, twice.
+pub(crate) fn meet(t: Config, step: Step, s: Station, r: Station) -> Two
+    requires { ⌜ joinable t (r .held) (s .held) ≡ true ⌝ }
+    ensures { λ n. ⌜ n ≡ metBy t (step .kind) (step .sender) (step .receiver) s r ⌝ }
 {
-    let t = net.config;
     let kind = step.kind;
     let sender = step.sender;
     let receiver = step.receiver;
-    let j = sender as usize;
-    let i = receiver as usize;
-    let s = net.stations[j];
-    let r = net.stations[i];
     match kind {
-        WAKE => place(net, j, s.start_sent(receiver), i, r.woken(sender)),
-        PASS => place(net, j, s.start_sent(receiver), i, r.start_taken()),
+        WAKE => Two {
+            sender: s.start_sent(receiver),
+            receiver: r.woken(sender),
+        },
+        PASS => Two {
+            sender: s.start_sent(receiver),
+            receiver: r.start_taken(),
+        },
         ANSWER => {
             let given = s.held;
-            place(net, j, s.ended(), i, r.answer_taken(t, given))
+            Two {
+                sender: s.ended(),
+                receiver: r.answer_taken(t, given),
+            }
         }
-        _ => {
-            let mut next = net;
-            next.stations[j] = s.ended();
-            next
-        }
+        _ => Two {
+            sender: s.ended(),
+            receiver: r.ended(),
+        },
     }
 }

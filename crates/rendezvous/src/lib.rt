@@ -9,13 +9,13 @@ use schedule::rows::Drawn;
 use station::Station;
 use topology::Verdict;
 ghost use mathlib.Core.Path.{_≡_};
-ghost use mathlib.Core.Bool.{true};
+ghost use mathlib.Core.Bool.{false};
+ghost use Rattle.refusal.specs.Refusal.{numberOf};
+ghost use Rattle.refusal.specs.declared.Refusal.the-variants.{OutOfForm};
 ghost use Rattle.linemap.specs.Openings.{openingOf};
-ghost use Rattle.schedule.specs.Rules.{allowed};
-ghost use Rattle.schedule.specs.Outcome.{accepted, refused, outcomeOf, runOutcomeOf};
-ghost use Rattle.schedule.specs.Draws.{stepOn, drawOn, stopped, runOn};
+ghost use Rattle.schedule.specs.Outcome.{refused, outcomeOf, runOutcomeOf};
+ghost use Rattle.schedule.specs.Draws.{stepOn, drawOn, runOn};
 ghost use Rattle.rendezvous.specs.Net.{wellFormed};
-ghost use Rattle.rendezvous.specs.Figure.{applied};
 ghost use Rattle.rendezvous.specs.Rules.{rules};
 ghost use Rattle.rendezvous.specs.Opening;
 
@@ -114,18 +114,6 @@ fn refuse(net: Net, why: Refusal) -> Stepped
     }
 }
 
-// An allowed step, made.
-fn make(net: Net, step: Step) -> Stepped
-    requires { ⌜ (wellFormed net ≡ true) × (allowed rules net step ≡ true) ⌝ }
-    ensures { λ r. ⌜ outcomeOf (r .answer) (r .net) ≡ accepted step (applied net (step .kind) (step .sender) (step .receiver)) ⌝ }
-{
-    let next = figure::apply(net, step);
-    Stepped {
-        answer: Answer::Made(step),
-        net: next,
-    }
-}
-
 // One step: refused by 11, 12 or 13, or made.
 pub fn step(net: Net, step: Step) -> Stepped
     ensures { λ r. ⌜ outcomeOf (r .answer) (r .net) ≡ stepOn rules net step ⌝ }
@@ -137,14 +125,23 @@ pub fn step(net: Net, step: Step) -> Stepped
     if !figure::is_in_range(t, step) {
         return refuse(net, Refusal::OutOfRange);
     }
-    let sender = step.sender as usize;
-    let receiver = step.receiver as usize;
-    let s = net.stations[sender];
-    let r = net.stations[receiver];
-    if !figure::may_step(t, step, s, r) {
+    let j = step.sender as usize;
+    let i = step.receiver as usize;
+    let sender = net.stations[j];
+    let receiver = net.stations[i];
+    if !figure::may_step(t, step, sender, receiver) {
         return refuse(net, Refusal::NotAllowed);
     }
-    make(net, step)
+    let two = figure::meet(t, step, sender, receiver);
+    let s = two.sender;
+    let r = two.receiver;
+    let mut next = net;
+    next.stations[j] = s;
+    next.stations[i] = r;
+    Stepped {
+        answer: Answer::Made(step),
+        net: next,
+    }
 }
 
 // The step that a draw picks, made: refused by 11, or by 14 where no step is allowed.
@@ -154,60 +151,94 @@ pub fn draw(net: Net, d: u16) -> Stepped
     if !is_well_formed(net) {
         return refuse(net, Refusal::OutOfForm);
     }
-    let rows = listing::rows(net);
-    let drawn = schedule::rows::pick(&rows, KINDS, net.config.k, d);
-    match drawn {
-        Drawn::Step(step) => make(net, step),
-        Drawn::Nothing => refuse(net, Refusal::NothingAllowed),
+    let t = net.config;
+    let states = listing::by_state(net);
+    let mut rows = [0u64; 256];
+    let sizes = listing::fill_anew(&mut rows, net, states);
+    let drawn = schedule::rows::pick(&rows, sizes, t.k, d);
+    let Drawn::Step(step) = drawn else {
+        return refuse(net, Refusal::NothingAllowed);
+    };
+    let j = step.sender as usize;
+    let i = step.receiver as usize;
+    let sender = net.stations[j];
+    let receiver = net.stations[i];
+    let two = figure::meet(t, step, sender, receiver);
+    let s = two.sender;
+    let r = two.receiver;
+    let mut next = net;
+    next.stations[j] = s;
+    next.stations[i] = r;
+    Stepped {
+        answer: Answer::Made(step),
+        net: next,
     }
 }
 
-// A run that stops at a net after so many steps.
-fn stop(net: Net, steps: usize) -> Ran
-    ensures { λ r. ⌜ runOutcomeOf (r .answer) (r .steps) (r .«at_rest») (r .net) ≡ stopped rules net steps ⌝ }
+// What a run gives that stops in form.
+fn stop(net: Net, steps: usize, rest: bool) -> Ran
+    ensures { λ r. ⌜ runOutcomeOf (r .answer) (r .steps) (r .«at_rest») (r .net) ≡ record { number = 0; steps = steps; rest = rest; net = net } ⌝ }
 {
-    if !is_well_formed(net) {
-        return Ran {
-            answer: RunAnswer::Refused(Refusal::OutOfForm),
-            steps: steps,
-            at_rest: false,
-            net: net,
-        };
-    }
-    let rows = listing::rows(net);
-    let c = schedule::rows::count(&rows, KINDS, net.config.k);
     Ran {
         answer: RunAnswer::Stopped,
         steps: steps,
-        at_rest: c == 0,
+        at_rest: rest,
+        net: net,
+    }
+}
+
+// What a run gives that starts outside the form, or has left it.
+fn stop_outside(net: Net, steps: usize) -> Ran
+    ensures { λ r. ⌜ runOutcomeOf (r .answer) (r .steps) (r .«at_rest») (r .net) ≡ record { number = numberOf OutOfForm; steps = steps; rest = false; net = net } ⌝ }
+{
+    Ran {
+        answer: RunAnswer::Refused(Refusal::OutOfForm),
+        steps: steps,
+        at_rest: false,
         net: net,
     }
 }
 
 // The steps that the draws pick, one after the other, until they are used up, one is refused, or the form is left. The counter is the place
-// among the draws and the number of steps made. The form is tested once: after that, only what the receiver has gathered can break it.
+// among the draws and the number of steps made. The form is tested once: after that, only what the receiver has gathered can break it. What
+// the stations may send is kept, and only that of the two that a step changes is found anew; the rows follow each step.
 pub fn run(net: Net, draws: &[u16]) -> Ran
     ensures { λ r. ⌜ runOutcomeOf (r .answer) (r .steps) (r .«at_rest») (r .net) ≡ runOn rules net (now (draws .entry)) ⌝ }
 {
     if !is_well_formed(net) {
-        return stop(net, 0);
+        return stop_outside(net, 0);
     }
     let mut here = net;
+    let mut states = listing::by_state(net);
+    let mut kept = listing::keep_all(net);
+    let mut rows = [0u64; 256];
+    let mut sizes = listing::fill(&mut rows, net.config.k, &kept, states);
     let mut made: usize = 0;
     while made < draws.len() {
-        let rows = listing::rows(here);
-        let drawn = schedule::rows::pick(&rows, KINDS, here.config.k, draws[made]);
+        let t = here.config;
+        let drawn = schedule::rows::pick(&rows, sizes, t.k, draws[made]);
         let Drawn::Step(step) = drawn else {
-            break;
+            return stop(here, made, true);
         };
-        let next = figure::apply(here, step);
-        let receiver = next.stations[step.receiver as usize];
-        here = next;
+        let j = step.sender as usize;
+        let i = step.receiver as usize;
+        let sender = here.stations[j];
+        let receiver = here.stations[i];
+        let two = figure::meet(t, step, sender, receiver);
+        let s = two.sender;
+        let r = two.receiver;
+        here.stations[j] = s;
+        here.stations[i] = r;
+        let old = states;
+        states = listing::renew(&mut kept, states, t, step.sender, s);
+        states = listing::renew(&mut kept, states, t, step.receiver, r);
         made += 1;
-        let held = receiver.held;
-        if !aggregate::is_bounded(here.config, held) {
-            break;
+        let held = r.held;
+        if !aggregate::is_bounded(t, held) {
+            return stop_outside(here, made);
         }
+        sizes = listing::follow(&mut rows, sizes, t.k, &kept, old, states, step);
     }
-    stop(here, made)
+    let c = schedule::rows::total(sizes);
+    stop(here, made, c == 0)
 }

@@ -8,5 +8,7 @@ pub mod Picks
 pub mod Outcomes
 pub mod Running
 pub mod Drawing
-pub mod Filling
+pub mod Sized
+pub mod Counting
+pub mod Resizing
 pub mod Answers

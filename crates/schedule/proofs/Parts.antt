@@ -142,16 +142,3 @@ length-stepsOfKind w k kind =
 pub length-stepsOf : (w kinds k : ℕ) → length (stepsOf w kinds k 1) ≡ kinds * (k * w)
 unfolding stepsOf range
 length-stepsOf w kinds k = length-flat _ (k * w) (λ kind. length-stepsOfKind w k kind) 1 (suc kinds - 1) ∙ ap (λ (n : ℕ). n * (k * w)) (omega arith)
-
--- the number of an entry and the length of the list
-pub length-of-beyond : (l : List Step) (n m : ℕ) → entry l n ≡ Beyond m → length l + m ≡ n
-unfolding entry
-length-of-beyond [] n m h = let e : n ≡ m = cc in omega arith
-length-of-beyond (t ∷ l) zero m h = absurd (let z : _≡_ {A = ℕ} 0 1 = cc in omega arith)
-length-of-beyond (t ∷ l) (suc n) m h = let i = length-of-beyond l n m h in omega arith
-
-pub below-of-at : (l : List Step) (n : ℕ) (s : Step) → entry l n ≡ At s → n < length l
-unfolding entry
-below-of-at [] n s h = absurd (let z : _≡_ {A = ℕ} 0 1 = cc in omega arith)
-below-of-at (t ∷ l) zero s h = omega arith
-below-of-at (t ∷ l) (suc n) s h = let i = below-of-at l n s h in omega arith

@@ -2,20 +2,20 @@
 -- are its list. The row of the reports is the same for every kind of net. Assumes nothing.
 use mathlib.Core.Path.{_≡_, refl, sym, _∙_, ap, ap₂}
 use mathlib.Core.Bool.{Bool, false, _&&_, and-true, and-false}
-use mathlib.Core.List.{List, _++_, map, flatMap}
+use mathlib.Core.List.{List, [], _++_, map, flatMap}
 use Prim.Native.Nat.{ℕ, zero, suc, _+_, _-_, _*_, _^_, _≤_, _<_}
 use native.Mathlib.Nat.{add-zero, zero-add, le-trans, lt-of-lt-of-le, mul-le-mul-left, mul-le-mul-right}
 use native.Mathlib.Omega.{arith}
 use lib.ListN.{length}
 use lib.Dec.{eqb}
 use lib.Pow.{pow-mono}
-use borrow.Author.Tests.{eq-eqb, ne-eqb, le-leb, lt-ltb}
+use borrow.Author.Tests.{eq-eqb, ne-eqb, le-leb, lt-leb, lt-ltb}
 use Rattle.finite.proofs.Cases.{by-bool, by-eq, eqb-self}
 use Rattle.finite.specs.Sum.{addition, sumTo, indicator}
 use Rattle.finite.proofs.Sums.{sum-ext, sum-first}
 use Rattle.bitset.specs.Set.{member, size, bitIf, setOf}
-use Rattle.bitset.proofs.Laws.{size-sum, no-member-from, same-members}
-use Rattle.bitset.proofs.Selected.{set-lt, set-member, set-has, bit-has, bit-lt}
+use Rattle.bitset.proofs.Laws.{size-sum, no-member-from, same-members, member-empty}
+use Rattle.bitset.proofs.Selected.{set-lt, set-none, set-member, set-has, bit-has, bit-lt}
 use Rattle.schedule.specs.declared.Step.{Step}
 use Rattle.schedule.specs.Rules.{Rules, inRange, allowed}
 use Rattle.schedule.specs.Listing.{count, range, keepIf, select, step, listed}
@@ -46,14 +46,20 @@ row-length rows kind s h =
     ∙ sum-ext addition 64 _ _ (λ j l. ap (λ (n : ℕ). indicator (member n (rowAt rows kind s))) (sym (zero-add j)))
     ∙ sym (length-passing (inRows rows) (step kind s) 0 64)
 
--- steps are listed alike where each part is
-select-flat : (p q : Step → Bool) (f g : ℕ → List Step) (a n : ℕ) → ((x : ℕ) → a ≤ x → x < a + n → select p (f x) ≡ select q (g x))
-    → select p (flatMap f (count a n)) ≡ select q (flatMap g (count a n))
+-- steps are listed alike where each part is, and the parts past n have none
+select-flat : (p q : Step → Bool) (f g : ℕ → List Step) (a n w : ℕ) → n ≤ w → ((x : ℕ) → a ≤ x → x < a + n → select p (f x) ≡ select q (g x))
+    → ((x : ℕ) → a + n ≤ x → x < a + w → select p (f x) ≡ []) → select p (flatMap f (count a w)) ≡ select q (flatMap g (count a n))
 unfolding flatMap count select
-select-flat p q f g a zero same = refl
-select-flat p q f g a (suc n) same =
-    select-append p (f a) (flatMap f (count (suc a) n))
-    ∙ ap₂ _++_ (same a (omega arith) (omega arith)) (select-flat p q f g (suc a) n (λ x h l. same x (omega arith) (omega arith)))
+select-flat p q f g a zero zero h same none = refl
+select-flat p q f g a zero (suc w) h same none =
+    select-append p (f a) (flatMap f (count (suc a) w))
+    ∙ ap₂ _++_ (none a (omega arith) (omega arith))
+    (select-flat p q f g (suc a) zero w (omega arith) (λ x l m. absurd (let z : ⊥ = omega arith in z)) (λ x l m. none x (omega arith) (omega arith)))
+select-flat p q f g a (suc n) zero h same none = absurd (let z : ⊥ = omega arith in z)
+select-flat p q f g a (suc n) (suc w) h same none =
+    select-append p (f a) (flatMap f (count (suc a) w))
+    ∙ ap₂ _++_ (same a (omega arith) (omega arith))
+    (select-flat p q f g (suc a) n w (omega arith) (λ x l m. same x (omega arith) (omega arith)) (λ x l m. none x (omega arith) (omega arith)))
     ∙ sym (select-append q (g a) (flatMap g (count (suc a) n)))
 
 -- a row tested by its set, over all 64 receivers, and by what the set was made of, over those below k
@@ -68,12 +74,18 @@ select-row p q f a (suc k) (suc w) h same none =
     rw (same a (omega arith) (omega arith))
     (ap (keepIf (q (f a)) (f a)) (select-row p q f (suc a) k w (omega arith) (λ i g l. same i (omega arith) (omega arith)) (λ i g. none i (omega arith))))
 
+-- the row of a kind that a net does not have
+pub no-row : {Net : Type 0} (R : Rules Net) (net : Net) (kind s : ℕ) → R .kinds < kind
+    → 0 ≡ setOf (R .stations net) (λ r. allowed R net (step kind s r))
+unfolding allowed inRange
+no-row R net kind s h = sym (set-none (R .stations net) _ (λ r. rw (lt-leb kind (R .kinds) h) (simp and-false)))
+
 -- the rows of the steps that a net allows list them
-module _ {Net : Type 0} (R : Rules Net) (net : Net) (rows : List ℕ) (are : AreRows R net rows) (few : R .stations net ≤ 64) where
+module _ {Net : Type 0} (R : Rules Net) (net : Net) (rows : List ℕ) (are : AreRows R net rows) (kinds : R .kinds ≤ 4) (few : R .stations net ≤ 64) where
   abbrev k : ℕ
   k = R .stations net
 
-  row-lists : (kind s : ℕ) → 1 ≤ kind → kind ≤ R .kinds → s < k
+  row-lists : (kind s : ℕ) → 1 ≤ kind → kind ≤ 4 → s < k
       → select (inRows rows) (stepsFrom 64 kind s 0) ≡ select (allowed R net) (stepsFrom k kind s 0)
   unfolding stepsFrom range inRows
   row-lists kind s l h m =
@@ -85,11 +97,34 @@ module _ {Net : Type 0} (R : Rules Net) (net : Net) (rows : List ℕ) (are : Are
       (λ i a b. ap (member i) row ∙ set-member k test i (omega arith))
       (λ i a. ap (member i) row ∙ no-member-from k i (setOf k test) (set-lt k test) (omega arith)))
 
-  pub rows-list : listedIn rows (R .kinds) k ≡ listed R net
-  unfolding listedIn listed stepsOf stepsOfKind range
+  row-empty : (kind s : ℕ) → R .kinds < kind → kind ≤ 4 → s < k → select (inRows rows) (stepsFrom 64 kind s 0) ≡ []
+  unfolding stepsFrom range inRows count select
+  row-empty kind s h l m =
+      let row = are .row kind s (omega arith) l m ∙ sym (no-row R net kind s h) in
+      select-row (inRows rows) (allowed R net) (step kind s) 0 0 64 (omega arith)
+      (λ i a b. absurd (let z : ⊥ = omega arith in z))
+      (λ i a. ap (member i) row ∙ member-empty i)
+
+  kind-lists : (kind : ℕ) → 1 ≤ kind → kind ≤ 4 → select (inRows rows) (stepsOfKind 64 k kind 0) ≡ select (allowed R net) (stepsOfKind k k kind 0)
+  unfolding stepsOfKind range
+  kind-lists kind h l =
+      select-flat (inRows rows) (allowed R net) _ _ 0 (k - 0) (k - 0) (omega arith)
+      (λ s a b. row-lists kind s h l (omega arith))
+      (λ s a b. absurd (let z : ⊥ = omega arith in z))
+
+  kind-empty : (kind : ℕ) → R .kinds < kind → kind ≤ 4 → select (inRows rows) (stepsOfKind 64 k kind 0) ≡ []
+  unfolding stepsOfKind range flatMap count select
+  kind-empty kind h l =
+      select-flat (inRows rows) (allowed R net) _ (λ s. []) 0 0 (k - 0) (omega arith)
+      (λ s a b. absurd (let z : ⊥ = omega arith in z))
+      (λ s a b. row-empty kind s h l (omega arith))
+
+  pub rows-list : listedIn rows 4 k ≡ listed R net
+  unfolding listedIn listed stepsOf range
   rows-list =
-      select-flat (inRows rows) (allowed R net) _ _ 1 _ (λ kind h l.
-      select-flat (inRows rows) (allowed R net) _ _ 0 _ (λ s a b. row-lists kind s h (omega arith) (omega arith)))
+      select-flat (inRows rows) (allowed R net) _ _ 1 _ _ (omega arith)
+      (λ kind h l. kind-lists kind h (omega arith))
+      (λ kind h l. kind-empty kind (omega arith) (omega arith))
       ∙ sym (ap (select (allowed R net)) (candidates-are (R .kinds) k))
 
 -- The row of the reports of station s, which is empty but for the root: `ready` is the guard of the root's own report.

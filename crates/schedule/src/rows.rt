@@ -2,12 +2,12 @@
 // for a step by its number is the same for all.
 use crate::Step;
 use bitset::contains;
+use std::num::wrapping_add_u32;
+use std::num::wrapping_sub_u32;
 ghost use mathlib.Core.Path.{_≡_};
 ghost use Prim.Native.Nat.{_≤_};
-ghost use lib.ListN.{length, getD};
-ghost use Rattle.schedule.specs.Listing.{select};
-ghost use Rattle.schedule.specs.Rows.{stepsOfKind, entry, inRows, listedIn};
-ghost use Rattle.schedule.specs.Draws.{picked};
+ghost use lib.ListN.{getD};
+ghost use Rattle.schedule.specs.Rows;
 
 // What a search for an entry of a list by its number finds: the entry, or, where the list is too short, how many entries are still to pass.
 pub(crate) enum Entry {
@@ -21,8 +21,13 @@ pub enum Drawn {
     Nothing,
 }
 
-// More than any rows list.
-const PAST_ALL: u32 = 4294967295;
+// How many steps rows list, by kind: a sender has four rows, of kinds 1 to 4.
+pub struct Sizes {
+    pub first: u32,
+    pub second: u32,
+    pub third: u32,
+    pub fourth: u32,
+}
 
 // The row at a place; past the rows there is none.
 fn row_at(rows: &[u64], at: usize) -> u64
@@ -32,10 +37,10 @@ fn row_at(rows: &[u64], at: usize) -> u64
 }
 
 // Entry `index`, counted from 0, of the steps of one kind. The scan over senders and receivers is left once it is met; a row that ends
-// before it is passed by its size.
+// before it is passed by its size, and eight receivers of whom none is in it by one test.
 fn find_of_kind(rows: &[u64], kind: u8, k: u8, index: u32) -> Entry
     requires { ⌜ 1 ≤ kind ⌝ }
-    ensures { λ r. ⌜ r ≡ entry (select (inRows (now (rows .entry))) (stepsOfKind 64 k kind 0)) index ⌝ }
+    ensures { λ r. ⌜ r ≡ Rows.entryOfKind (now (rows .entry)) k kind index ⌝ }
 {
     let mut left = index;
     let mut sender: u8 = 0;
@@ -49,13 +54,17 @@ fn find_of_kind(rows: &[u64], kind: u8, k: u8, index: u32) -> Entry
             receiver = 64;
         }
         while receiver < 64 {
-            if contains(set, receiver) {
-                if left == 0 {
-                    break 'scan;
+            if (set >> receiver) % 256 == 0 {
+                receiver += 8;
+            } else {
+                if contains(set, receiver) {
+                    if left == 0 {
+                        break 'scan;
+                    }
+                    left -= 1;
                 }
-                left -= 1;
+                receiver += 1;
             }
-            receiver += 1;
         }
         sender += 1;
     }
@@ -69,51 +78,84 @@ fn find_of_kind(rows: &[u64], kind: u8, k: u8, index: u32) -> Entry
     Entry::Beyond(left)
 }
 
-// Entry `index`, counted from 0, of all steps.
-fn find(rows: &[u64], kinds: u8, k: u8, index: u32) -> Entry
-    ensures { λ r. ⌜ r ≡ entry (listedIn (now (rows .entry)) kinds k) index ⌝ }
+// No steps.
+pub fn no_sizes() -> Sizes
+    ensures { λ r. ⌜ r ≡ Rows.none ⌝ }
 {
-    let mut left = index;
-    let mut kind: u8 = 0;
-    while kind < kinds {
-        kind += 1;
-        let found = find_of_kind(rows, kind, k, left);
-        match found {
-            Entry::At(step) => {
-                return Entry::At(step);
-            }
-            Entry::Beyond(n) => {
-                left = n;
-            }
-        }
-    }
-    Entry::Beyond(left)
-}
-
-// How many steps the rows list: what a search for an entry past them all has met.
-pub fn count(rows: &[u64], kinds: u8, k: u8) -> u32
-    ensures { λ r. ⌜ r ≡ length (listedIn (now (rows .entry)) kinds k) ⌝ }
-{
-    let found = find(rows, kinds, k, PAST_ALL);
-    match found {
-        // No list is so long.
-        Entry::At(_) => 0,
-        Entry::Beyond(n) => PAST_ALL - n,
+    Sizes {
+        first: 0,
+        second: 0,
+        third: 0,
+        fourth: 0,
     }
 }
 
-// Entry d mod c, counted from 0, of the c steps that the rows list.
-pub fn pick(rows: &[u64], kinds: u8, k: u8, d: u16) -> Drawn
-    ensures { λ r. ⌜ r ≡ picked (listedIn (now (rows .entry)) kinds k) d ⌝ }
+// The sizes with the rows of one more sender. Most senders have none.
+pub fn add(sizes: Sizes, a: u64, b: u64, c: u64, d: u64) -> Sizes
+    ensures { λ r. ⌜ r ≡ Rows.added sizes a b c d ⌝ }
 {
-    let c = count(rows, kinds, k);
+    if (a == 0) & (b == 0) & (c == 0) & (d == 0) {
+        return sizes;
+    }
+    Sizes {
+        first: wrapping_add_u32(sizes.first, bitset::count(a)),
+        second: wrapping_add_u32(sizes.second, bitset::count(b)),
+        third: wrapping_add_u32(sizes.third, bitset::count(c)),
+        fourth: wrapping_add_u32(sizes.fourth, bitset::count(d)),
+    }
+}
+
+// The sizes without the rows of one sender.
+pub fn remove(sizes: Sizes, a: u64, b: u64, c: u64, d: u64) -> Sizes
+    ensures { λ r. ⌜ r ≡ Rows.removed sizes a b c d ⌝ }
+{
+    Sizes {
+        first: wrapping_sub_u32(sizes.first, bitset::count(a)),
+        second: wrapping_sub_u32(sizes.second, bitset::count(b)),
+        third: wrapping_sub_u32(sizes.third, bitset::count(c)),
+        fourth: wrapping_sub_u32(sizes.fourth, bitset::count(d)),
+    }
+}
+
+// How many steps of all kinds there are.
+pub fn total(sizes: Sizes) -> u32
+    ensures { λ r. ⌜ r ≡ Rows.totalOf sizes ⌝ }
+{
+    let two = wrapping_add_u32(sizes.first, sizes.second);
+    let three = wrapping_add_u32(two, sizes.third);
+    wrapping_add_u32(three, sizes.fourth)
+}
+
+// Entry `index`, counted from 0, of all steps: a kind that ends before it is passed by its size.
+fn find(rows: &[u64], sizes: Sizes, k: u8, index: u32) -> Entry
+    ensures { λ r. ⌜ r ≡ Rows.entryBySize (now (rows .entry)) sizes k index ⌝ }
+{
+    if index < sizes.first {
+        return find_of_kind(rows, 1, k, index);
+    }
+    let second = index - sizes.first;
+    if second < sizes.second {
+        return find_of_kind(rows, 2, k, second);
+    }
+    let third = second - sizes.second;
+    if third < sizes.third {
+        return find_of_kind(rows, 3, k, third);
+    }
+    find_of_kind(rows, 4, k, third - sizes.third)
+}
+
+// Entry d mod c, counted from 0, of the c steps that the sizes add up to.
+pub fn pick(rows: &[u64], sizes: Sizes, k: u8, d: u16) -> Drawn
+    ensures { λ r. ⌜ r ≡ Rows.pickedBySize (now (rows .entry)) sizes k d ⌝ }
+{
+    let c = total(sizes);
     if c == 0 {
         return Drawn::Nothing;
     }
-    let found = find(rows, kinds, k, d as u32 % c);
+    let found = find(rows, sizes, k, d as u32 % c);
     match found {
         Entry::At(step) => Drawn::Step(step),
-        // Never, as d % c is below c.
+        // Only where the sizes are not those of the rows.
         Entry::Beyond(_) => Drawn::Nothing,
     }
 }

@@ -1,6 +1,6 @@
 -- The lent events of a process, as the law of a lent record asks for them: the process is lent, a reply is the answer, and an event
 -- holds both. Assumes nothing.
-use mathlib.Core.Path.{_≡_, refl}
+use mathlib.Core.Path.{_≡_}
 use mathlib.Core.List.{List}
 use contract.Lifetimes.{Lfts}
 use denote.RattleType.{Denots}
@@ -8,6 +8,7 @@ use denote.Signature.{typesAt}
 use denote.Struct.Laws as LL
 use Rattle.lent.proofs.Data.{Record, Answer, struct-answer, Event, Argument, struct}
 use Rattle.lent.proofs.Arguments.{values}
+use Rattle.lent.proofs.Memory.{alone}
 use Rattle.lent.proofs.Law.{Lending}
 use Rattle.aggregate.proofs.Aggregate as Sum
 use Rattle.aggregate.proofs.Aggregate.Laws as Sum′
@@ -40,7 +41,7 @@ event = record {
 
 -- what an answer brings, as an argument
 abbrev pub aggregate : Argument 0
-aggregate = struct (record { type = Sum.the-type; laws = Sum′.the-laws; plain = Sum′.the-plain }) (λ y. tt) (λ y f. refl)
+aggregate = struct (record { type = Sum.the-type; laws = Sum′.the-laws; plain = Sum′.the-plain })
 
 -- an event with these arguments, by its rule
 abbrev pub lending : (Ns : List (Argument 0)) → ((κs : Lfts 0) → Denots (typesAt (values Ns) κs) → Process → Outcome) → Lending 0
@@ -48,6 +49,7 @@ lending Ns rule = record {
   lent = process;
   answer = reply;
   event = event;
+  memory = alone;
   arguments = Ns;
-  promise = λ κs a p r q. outcomeOf r q ≡ rule κs a p;
+  promise = λ κs a e p r q. outcomeOf r q ≡ rule κs a p;
 }

@@ -98,6 +98,18 @@ fn stations_with_mail() {
     assert_eq!(run("tests/c/mail.c", &[]), "");
 }
 
+/// "Every call takes less than 64 KB of stack": every one that the header declares is measured.
+#[cfg(feature = "mail")]
+#[test]
+fn stack() {
+    let measured = run("tests/c/stack.c", &[]);
+    let calls: Vec<(&str, &str)> = measured.lines().filter_map(|line| line.split_once(' ')).collect();
+    assert_eq!(calls.iter().map(|(name, _)| name.to_string()).collect::<BTreeSet<_>>(), declared());
+    for (name, bytes) in calls {
+        assert!(bytes.parse::<usize>().expect("a number of bytes") < 64 << 10, "{name} takes {bytes} bytes of stack");
+    }
+}
+
 /// Station 1 in document 01's second order of the triangle: wake 0 1, wake 1 2, .., answer 2 1 11, answer 1 0 18.
 #[test]
 fn example_controller() {

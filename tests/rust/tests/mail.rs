@@ -1,6 +1,6 @@
 //! The library's stations with mail against the model, demand 3 on every list, and both kinds against each other.
 
-use conformance::compare::{image, net};
+use conformance::compare::net;
 use conformance::edges;
 use conformance::ffi::Library;
 use conformance::model::mail::Mail;
@@ -19,11 +19,6 @@ fn fresh_nets() {
 #[test]
 fn any_net() {
     net::hostile::<Mail>(&Library, 10_000);
-}
-
-#[test]
-fn images_of_no_net() {
-    image::of_no_net(5_000);
 }
 
 #[test]

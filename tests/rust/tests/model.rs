@@ -5,7 +5,7 @@ use conformance::calls::Model;
 use conformance::compare::{map, net, program, station};
 use conformance::edges;
 use conformance::gen::net::any;
-use conformance::model::mail::Mail;
+use conformance::model::mail::{Mail, Message};
 use conformance::model::meet::{Meet, ANSWER, PASS, REPORT, WAKE};
 use conformance::model::net::{Net, Step};
 use conformance::model::set;
@@ -47,6 +47,23 @@ fn pipes_carry_the_model_s_program() {
     edges::program(|input| program.output(input, 3));
     program::inputs(&program, 300);
     program::length_limit(&program);
+}
+
+/// "A post replaces what a box held", whatever the words were, and leaves every other box.
+#[test]
+fn a_post_is_what_the_box_holds() {
+    for_cases(500, |rng| {
+        let net: Mail = any(rng);
+        let (before, receiver) = (rng.pick(&net.outboxes), rng.station(64));
+        for message in [Message::Start, Message::Answer(rng.bits())] {
+            let mut outbox = before;
+            outbox.post(receiver, message);
+            assert_eq!(outbox.mailbox(receiver), Some(message));
+            for other in (0..64).filter(|&other| other != receiver) {
+                assert_eq!(outbox.mailbox(other), before.mailbox(other));
+            }
+        }
+    });
 }
 
 /// "Each step .. equals Figure 2": on any net in form, reachable or not, the same steps are allowed and do the same.

@@ -6,6 +6,8 @@ use Rattle.topology.specs.Acceptance.{faultNumbers, verdictNumbers}
 use Rattle.topology.proofs.Answers.{fault-refuses}
 use Rattle.linemap.specs.Maps.{acceptance}
 use Rattle.linemap.specs.Openings.{openingBy}
+use Rattle.aggregate.specs.declared.Config.{Config}
+use Rattle.mailbox.specs.Net.{Net, freshNet}
 use Rattle.mailbox.proofs.Laws.{root-low}
 use Rattle.mailbox.proofs.fresh.Statement.{statement}
 use Rattle.mailbox.proofs.fresh.Tie as tie
@@ -38,11 +40,17 @@ config-requires : tie.Need-config-requires
 config-requires c κs = search needs
 
 fresh-net-requires : tie.Need-fresh-net-requires
-fresh-net-requires c κs = rw (c .before .before .config .ensures) (root-low (c .before .before .before .before .before .before .args .m) (numbers (c .before .before .before)))
+fresh-net-requires c κs =
+    let m = c .before .before .before .before .before .before .before .args .m in
+    rw (c .before .before .before .config .ensures) (root-low m (numbers (c .before .before .before .before)))
 
 returns-2 : tie.Need-returns-2
 unfolding openingBy
-returns-2 c = rw (numbers (c .before .before .before .before), c .fresh-net .ensures, c .before .before .before .config .ensures)
+returns-2 c =
+    let m = c .before .before .before .before .before .before .before .before .args .m in
+    rw (numbers (c .before .before .before .before .before))
+    (ap (λ (n : Net). record { numbers = answer.accepted; net = n })
+    (c .fresh-net .ensures ∙ ap (λ (t : Config). freshNet t (m .counts) (m .neighbours)) (c .before .before .before .before .config .ensures)))
 
 pub fresh-spec : {M : Type 1} → statement M
 fresh-spec =

@@ -1,20 +1,22 @@
 -- `mailbox::fresh_net` meets its contract: its parts are those of the definition. Assumes nothing.
-use borrow.Author.Needs.{needs}
+use Rattle.aggregate.specs.Aggregate.{rootOf}
+use Rattle.mail.proofs.Guards.{starts-written}
 use Rattle.mailbox.specs.Net.{freshNet}
+use borrow.Author.Needs.{needs}
 use Rattle.mailbox.proofs.fresh_net.Statement.{statement}
 use Rattle.mailbox.proofs.fresh_net.Tie as tie
 
 root-requires : tie.Need-root-requires
 root-requires c κs = search needs
 
-cast-root : tie.Need-cast-root
-cast-root c = search needs
-
 fresh-stations-requires : tie.Need-fresh-stations-requires
 fresh-stations-requires c κs = search needs
 
-empty-requires : tie.Need-empty-requires
-empty-requires c κs = search needs
+clear-requires : tie.Need-clear-requires
+clear-requires c κs = search needs
+
+cast-post-starts : tie.Need-cast-post-starts
+cast-post-starts c = search needs
 
 mul-post-starts : tie.Need-mul-post-starts
 mul-post-starts c = search needs
@@ -27,16 +29,24 @@ post-starts-requires c κs = search needs
 
 returns : tie.Need-returns
 unfolding freshNet
-returns c = rw (c .post-starts .ensures, c .before .empty .ensures, c .before .before .fresh-stations .ensures, c .before .before .before .root .ensures)
+returns c =
+    let root = c .before .before .before .before .before in
+    rw (
+      c .post-starts .ensures,
+      root .root .ensures,
+      starts-written _ (rootOf (root .before .args .t)) (root .before .pre) _,
+      c .before .before .clear .ensures,
+      c .before .before .before .before .fresh-stations .ensures,
+    )
 
 pub fresh-net-spec : {M : Type 1} → statement M
 fresh-net-spec =
     tie.close
     (tie.spec
     root-requires
-    cast-root
     fresh-stations-requires
-    empty-requires
+    clear-requires
+    cast-post-starts
     mul-post-starts
     array-read-post-starts
     post-starts-requires

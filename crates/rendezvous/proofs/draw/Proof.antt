@@ -1,19 +1,55 @@
 -- `rendezvous::draw` meets its contract: outside the form a draw is refused, and else what is picked from the rows decides. Assumes nothing.
-use mathlib.Core.Path.{_≡_, sym, _∙_}
+use mathlib.Core.Path.{_≡_, refl, sym, _∙_, ap}
 use mathlib.Core.Bool.{true}
+use Prim.Native.Nat.{ℕ, _≤_, _<_}
+use lib.ListN.{length-replicate}
 use borrow.Author.Needs.{needs}
 use borrow.Author.Tests.{not-true, not-false}
+use Rattle.schedule.specs.Rules.{inRange, allowed}
+use Rattle.schedule.specs.Rows.{Filled}
+use Rattle.schedule.specs.Outcome.{accepted}
+use Rattle.schedule.proofs.Answers.{allowed-parts}
 use Rattle.schedule.proofs.Outcomes.{draw-unformed}
 use Rattle.schedule.proofs.Drawing.{drawn-nothing, drawn-allowed, drawn-accepted}
+use Rattle.rendezvous.specs.declared.Net.{Net}
 use Rattle.rendezvous.specs.Net.{wellFormed}
+use Rattle.rendezvous.specs.Receivers.{sentIn}
 use Rattle.rendezvous.specs.Rules.{rules}
-use Rattle.rendezvous.proofs.Laws.{k-most}
+use Rattle.rendezvous.proofs.Laws.{k-most, places, sums-joinable}
+use Rattle.rendezvous.proofs.RowSets.{rows-filled}
+use Rattle.rendezvous.proofs.Going.{made-is}
 use Rattle.rendezvous.proofs.draw.Statement.{statement}
 use Rattle.rendezvous.proofs.draw.Tie as tie
 
 -- past the test of the form
-formed : (c : tie.Else1) → wellFormed (c .before .before .args .net) ≡ true
+formed : (c : tie.Else1) → wellFormed (c .before .before .args .t1) ≡ true
 formed c = sym (c .before .is-well-formed .ensures) ∙ not-false _ (c .if1 .left)
+
+few : (c : tie.Else1) → c .before .before .args .t1 .config .k ≤ 64
+few c = k-most (c .before .before .args .t1) (formed c)
+
+-- where a pick was made
+abbrev formedOf : tie.After-pick → tie.Else1
+formedOf c = c .before .before .before .before .before .before
+
+abbrev netOf : tie.After-pick → Net
+netOf c = c .before .before .before .before .before .before .before .before .args .t1
+
+-- the rows are those of the net
+filled : (c : tie.After-pick) → Filled rules (netOf c) (c .before .before .fill-anew .last .0) (c .before .before .fill-anew .result)
+filled c =
+    let fill = c .before .before in
+    rows-filled (netOf c) (sentIn (netOf c)) (few (formedOf c)) (λ j l. refl) (fill .before .before .by-state .ensures) (fill .fill-anew .ensures)
+
+-- the step picked is allowed, so its stations have places
+may : (c : tie.After-known-told) → allowed rules (netOf (c .before .before .before)) (c .before .drawn .given .0 .0) ≡ true
+may c = let pick = c .before .before .before in drawn-allowed rules (netOf pick) (filled pick) _ (pick .pick .ensures) (c .before .drawn .given .1)
+
+ranged : (c : tie.After-known-told) → inRange rules (netOf (c .before .before .before)) (c .before .drawn .given .0 .0) ≡ true
+ranged c = allowed-parts rules _ _ (may c) .0
+
+low : (c : tie.After-known-told) → let step = c .before .drawn .given .0 .0 in (step .sender < 64) × (step .receiver < 64)
+low c = let pick = c .before .before .before in places (netOf pick) (formed (formedOf pick)) _ (ranged c)
 
 is-well-formed-requires : tie.Need-is-well-formed-requires
 is-well-formed-requires c κs = search needs
@@ -25,10 +61,13 @@ returns : tie.Need-returns
 returns c =
     let a = c .before .before .before .args in
     c .refuse .ensures
-    ∙ sym (draw-unformed rules (a .net) (a .d) (sym (c .before .before .is-well-formed .ensures) ∙ not-true _ (c .before .if1 .taken)))
+    ∙ sym (draw-unformed rules (a .t1) (a .d) (sym (c .before .before .is-well-formed .ensures) ∙ not-true _ (c .before .if1 .taken)))
 
-rows-requires : tie.Need-rows-requires
-rows-requires c κs = k-most (c .before .before .args .net) (formed c)
+by-state-requires : tie.Need-by-state-requires
+by-state-requires c κs = few (c .before)
+
+fill-anew-requires : tie.Need-fill-anew-requires
+fill-anew-requires c κs = (few (c .before .before .before), length-replicate {A = ℕ} 256 0)
 
 slice-aggregate-pick : tie.Need-slice-aggregate-pick
 slice-aggregate-pick c = search needs
@@ -39,14 +78,6 @@ pick-requires c κs = search needs
 enum-known-drawn : tie.Need-enum-known-drawn
 enum-known-drawn c = search needs
 
-make-requires : tie.Need-make-requires
-make-requires c κs =
-    let pick = c .before .before .before in
-    let rows = pick .before .before in
-    let net = rows .before .before .before .args .net in
-    let f = formed (rows .before) in
-    (f, drawn-allowed rules net _ f (k-most net f) (rows .rows .ensures) (pick .pick .ensures) (c .before .drawn .given .1))
-
 enum-told : tie.Need-enum-told
 enum-told c = search needs
 
@@ -55,21 +86,53 @@ refuse-requires-2 c κs = search needs
 
 returns-2 : tie.Need-returns-2
 returns-2 c =
-    let pick = c .before .before .before .before in
-    let rows = pick .before .before in
-    let net = rows .before .before .before .args .net in
-    let f = formed (rows .before) in
-    c .make .ensures
-    ∙ sym (drawn-accepted rules net _ f (k-most net f) (rows .rows .ensures) (pick .pick .ensures) (c .before .before .drawn .given .1))
+    let pick = c .before .before .before in
+    c .refuse2 .ensures
+    ∙ sym (drawn-nothing rules (netOf pick) (filled pick) _ (pick .pick .ensures) (formed (formedOf pick)) (c .before .enum-told .given .1))
+
+cast-j : tie.Need-cast-j
+cast-j c = search needs
+
+cast-i : tie.Need-cast-i
+cast-i c = search needs
+
+mul-sender : tie.Need-mul-sender
+mul-sender c = search needs
+
+element-copy-out-sender : tie.Need-element-copy-out-sender
+element-copy-out-sender c = low (c .before .before) .0
+
+mul-receiver : tie.Need-mul-receiver
+mul-receiver c = search needs
+
+element-copy-out-receiver : tie.Need-element-copy-out-receiver
+element-copy-out-receiver c = low (c .before .before .before) .1
+
+meet-requires : tie.Need-meet-requires
+meet-requires c κs =
+    let told = c .before .before .before .before in
+    let pick = told .before .before .before in
+    sums-joinable (netOf pick) (formed (formedOf pick)) _ (ranged told)
+
+mul-s : tie.Need-mul-s
+mul-s c = search needs
+
+element-set-from-s : tie.Need-element-set-from-s
+element-set-from-s c = low (c .before .before .before .before .before .before .before) .0
+
+mul-r : tie.Need-mul-r
+mul-r c = search needs
+
+element-set-from-r : tie.Need-element-set-from-r
+element-set-from-r c = low (c .before .before .before .before .before .before .before) .1
 
 returns-3 : tie.Need-returns-3
 returns-3 c =
-    let pick = c .before .before .before in
-    let rows = pick .before .before in
-    let net = rows .before .before .before .args .net in
-    let f = formed (rows .before) in
-    c .refuse2 .ensures
-    ∙ sym (drawn-nothing rules net _ f (k-most net f) (rows .rows .ensures) (pick .pick .ensures) (c .before .enum-told .given .1))
+    let told = c .before .before .before .before .before .before .before in
+    let pick = told .before .before .before in
+    let step = told .before .drawn .given .0 .0 in
+    ap (accepted step) (made-is (netOf pick) step (may told) (c .before .before .meet .ensures))
+    ∙ sym (drawn-accepted rules (netOf pick) (filled pick) _ (pick .pick .ensures) (formed (formedOf pick)) (told .before .drawn .given .1))
 
 pub draw-spec : {M : Type 1} → statement M
 draw-spec =
@@ -78,12 +141,23 @@ draw-spec =
     is-well-formed-requires
     refuse-requires
     returns
-    rows-requires
+    by-state-requires
+    fill-anew-requires
     slice-aggregate-pick
     pick-requires
     enum-known-drawn
-    make-requires
     enum-told
     refuse-requires-2
     returns-2
+    cast-j
+    cast-i
+    mul-sender
+    element-copy-out-sender
+    mul-receiver
+    element-copy-out-receiver
+    meet-requires
+    mul-s
+    element-set-from-s
+    mul-r
+    element-set-from-r
     returns-3)

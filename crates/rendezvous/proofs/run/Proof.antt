@@ -1,48 +1,83 @@
--- `rendezvous::run` meets its contract. Invariant: the net reached is well-formed, and the run is one from it, after the steps made, by the
--- draws that are left. Assumes nothing.
-use mathlib.Core.Path.{sym, _∙_, ap}
-use mathlib.Core.Logic.{⊎-elim}
-use Prim.Native.Nat.{_-_}
-use lib.ListN.{length}
+-- `rendezvous::run` meets its contract. Invariant (`Going`): the net reached is well-formed, and the run is one from it, after the steps made, by
+-- the draws that are left; what its stations may send and its rows are known. Assumes nothing.
+use mathlib.Core.Path.{_≡_, sym, _∙_}
+use mathlib.Core.Bool.{true}
+use Prim.Native.Nat.{ℕ, _-_, _≤_, _<_}
+use native.Mathlib.Omega.{arith}
+use lib.ListN.{length, length-map, length-replicate}
 use borrow.Author.Needs.{needs}
 use borrow.Author.Tests.{not-true, not-false}
-use Rattle.refusal.specs.declared.Refusal.the-variants.{NothingAllowed}
-use Rattle.schedule.specs.Outcome.{accepted}
-use Rattle.schedule.proofs.Drawing.{drawn-nothing, drawn-allowed, drawn-accepted}
-use Rattle.schedule.proofs.Running.{Running, run-starts, run-barred, ends-used-up, ends-refused, goes-on, ends-unformed}
+use Rattle.schedule.proofs.Running.{run-starts, barred-with, used-up-with, at-rest-with}
+use Rattle.rendezvous.specs.Net.{wellFormed}
 use Rattle.rendezvous.specs.Rules.{rules}
 use Rattle.rendezvous.proofs.Laws.{k-most}
-use Rattle.rendezvous.proofs.FormAfter.{receiver-placed, next-formed}
+use Rattle.rendezvous.proofs.Going.{Going, few, filled, both-low, sender-low, receiver-low, joins, ends-outside, agree, others-hold, goes-further}
 use Rattle.rendezvous.proofs.run.Statement.{statement}
 use Rattle.rendezvous.proofs.run.Tie as tie
 
 abbrev Inv-loop : tie.InvT-loop
-Inv-loop draws here₀ made₀ here made = Running rules here₀ draws here made
+Inv-loop draws here₀ states₀ kept₀ rows₀ sizes₀ made₀ here states kept rows sizes made = Going here₀ draws here states kept rows sizes made
 
 abbrev μ-loop : tie.MeasureT-loop
-μ-loop draws here₀ made₀ here made = length draws - made
+μ-loop draws here₀ states₀ kept₀ rows₀ sizes₀ made₀ here states kept rows sizes made = length draws - made
+
+-- past the test of the form
+formed : (c : tie.Else1 Inv-loop μ-loop) → wellFormed (c .before .before .before .args .net) ≡ true
+formed c = sym (c .before .is-well-formed .ensures) ∙ not-false _ (c .if1 .left)
+
+small : (c : tie.Else1 Inv-loop μ-loop) → c .before .before .before .args .net .config .k ≤ 64
+small c = k-most (c .before .before .before .args .net) (formed c)
+
+full : (c : tie.Start Inv-loop μ-loop) → length (c .args .net .stations) ≡ 64
+full c = sym (length-map (c .args .net .stations) _) ∙ c .good .0 .1 .1 .1 .0 .1 .0 .1
+
+-- the stations of the step that was drawn have places
+low-sender : (c : tie.After-known-told Inv-loop μ-loop) → c .before .drawn .given .0 .0 .sender < 64
+low-sender c =
+    let pick = c .before .before .before in
+    let test = pick .before .before .before .before in
+    sender-low (test .before .loop .inv) (test .loop-test .taken) (pick .pick .ensures) (c .before .drawn .given .1)
+
+low-receiver : (c : tie.After-known-told Inv-loop μ-loop) → c .before .drawn .given .0 .0 .receiver < 64
+low-receiver c =
+    let pick = c .before .before .before in
+    let test = pick .before .before .before .before in
+    receiver-low (test .before .loop .inv) (test .loop-test .taken) (pick .pick .ensures) (c .before .drawn .given .1)
 
 is-well-formed-requires : tie.Need-is-well-formed-requires Inv-loop μ-loop
 is-well-formed-requires c κs = search needs
 
-stop-requires : tie.Need-stop-requires Inv-loop μ-loop
-stop-requires c κs = search needs
+stop-outside-requires : tie.Need-stop-outside-requires Inv-loop μ-loop
+stop-outside-requires c κs = search needs
 
 returns : tie.Need-returns Inv-loop μ-loop
 returns c =
     let a = c .before .before .before .before .args in
-    c .stop .ensures ∙ sym (run-barred rules (a .net) (a .draws .now) (sym (c .before .before .is-well-formed .ensures) ∙ not-true _ (c .before .if1 .taken)))
+    c .stop-outside .ensures
+    ∙ sym (barred-with rules (a .net) (a .draws .now) (sym (c .before .before .is-well-formed .ensures) ∙ not-true _ (c .before .if1 .taken)))
+
+by-state-requires : tie.Need-by-state-requires Inv-loop μ-loop
+by-state-requires c κs = small c
+
+keep-all-requires : tie.Need-keep-all-requires Inv-loop μ-loop
+keep-all-requires c κs = small (c .before)
+
+fill-requires : tie.Need-fill-requires Inv-loop μ-loop
+fill-requires c κs = (small (c .before .before .before .before), length-replicate {A = ℕ} 256 0)
 
 loop-holds : tie.Need-loop-holds Inv-loop μ-loop
 loop-holds c =
-    let a = c .before .before .before .args in
-    run-starts rules (a .net) (a .draws .now) (sym (c .before .is-well-formed .ensures) ∙ not-false _ (c .if1 .left))
-
-rows-requires : tie.Need-rows-requires Inv-loop μ-loop
-rows-requires c κs = let l = c .before .loop in k-most (l .here) (l .inv .formed)
+    let kept = c .before .before .before in
+    let past = kept .before .before in
+    let start = past .before .before .before in
+    record {
+      running = run-starts rules (start .args .net) (start .args .draws .now) (formed past);
+      known = record { sends-are = kept .keep-all .ensures; states-are = kept .before .by-state .ensures; full = full start };
+      held = c .fill .ensures;
+    }
 
 slice-aggregate-pick : tie.Need-slice-aggregate-pick Inv-loop μ-loop
-slice-aggregate-pick c = search needs
+slice-aggregate-pick c = sym (c .before .before .before .loop .inv .held .sized)
 
 mul-pick : tie.Need-mul-pick Inv-loop μ-loop
 mul-pick c = search needs
@@ -59,75 +94,129 @@ enum-known-drawn c = search needs
 enum-told : tie.Need-enum-told Inv-loop μ-loop
 enum-told c = search needs
 
-apply-requires : tie.Need-apply-requires Inv-loop μ-loop
-apply-requires c κs =
+stop-requires : tie.Need-stop-requires Inv-loop μ-loop
+stop-requires c κs = search needs
+
+returns-2 : tie.Need-returns-2 Inv-loop μ-loop
+returns-2 c =
     let pick = c .before .before .before in
-    let rows = pick .before .before .before in
-    let l = rows .before .before .loop in
-    let f = l .inv .formed in
-    (f, drawn-allowed rules (l .here) _ f (k-most (l .here) f) (rows .rows .ensures) (pick .pick .ensures) (c .before .drawn .given .1))
+    let test = pick .before .before .before .before in
+    c .stop .ensures
+    ∙ sym (at-rest-with rules (test .before .loop .inv .running) (filled (test .before .loop .inv))
+    (test .loop-test .taken) (pick .pick .ensures) (c .before .enum-told .given .1))
 
-add-made : tie.Need-add-made Inv-loop μ-loop
-add-made c = search needs
+cast-j : tie.Need-cast-j Inv-loop μ-loop
+cast-j c = search needs
 
-cast-receiver : tie.Need-cast-receiver Inv-loop μ-loop
-cast-receiver c = search needs
+cast-i : tie.Need-cast-i Inv-loop μ-loop
+cast-i c = search needs
+
+mul-sender : tie.Need-mul-sender Inv-loop μ-loop
+mul-sender c = search needs
+
+element-copy-out-sender : tie.Need-element-copy-out-sender Inv-loop μ-loop
+element-copy-out-sender c = low-sender (c .before .before)
 
 mul-receiver : tie.Need-mul-receiver Inv-loop μ-loop
 mul-receiver c = search needs
 
 element-copy-out-receiver : tie.Need-element-copy-out-receiver Inv-loop μ-loop
-element-copy-out-receiver c =
-    let told = c .before .before in
+element-copy-out-receiver c = low-receiver (c .before .before .before)
+
+meet-requires : tie.Need-meet-requires Inv-loop μ-loop
+meet-requires c κs =
+    let told = c .before .before .before .before in
     let pick = told .before .before .before in
-    let rows = pick .before .before .before in
-    let l = rows .before .before .loop in
-    let f = l .inv .formed in
-    receiver-placed (l .here) _ f
-    (drawn-allowed rules (l .here) _ f (k-most (l .here) f) (rows .rows .ensures) (pick .pick .ensures) (told .before .drawn .given .1))
+    let test = pick .before .before .before .before in
+    joins (test .before .loop .inv) (test .loop-test .taken) (pick .pick .ensures) (told .before .drawn .given .1)
+
+mul-s : tie.Need-mul-s Inv-loop μ-loop
+mul-s c = search needs
+
+element-set-from-s : tie.Need-element-set-from-s Inv-loop μ-loop
+element-set-from-s c = low-sender (c .before .before .before .before .before .before .before)
+
+mul-r : tie.Need-mul-r Inv-loop μ-loop
+mul-r c = search needs
+
+element-set-from-r : tie.Need-element-set-from-r Inv-loop μ-loop
+element-set-from-r c = low-receiver (c .before .before .before .before .before .before .before)
+
+renew-requires : tie.Need-renew-requires Inv-loop μ-loop
+renew-requires c κs = low-sender (c .before .before .before .before .before .before .before .before)
+
+renew-requires-2 : tie.Need-renew-requires-2 Inv-loop μ-loop
+renew-requires-2 c κs = low-receiver (c .before .before .before .before .before .before .before .before .before .before)
+
+add-made : tie.Need-add-made Inv-loop μ-loop
+add-made c =
+    let meet = c .before .before .before .before .before .before in
+    let pick = meet .before .before .before .before .before .before .before .before in
+    let test = pick .before .before .before .before in
+    omega (arith, test .loop-test .taken, test .before .before .before .before .before .before .before .before .before .before .good .1 .0 .0)
 
 is-bounded-requires : tie.Need-is-bounded-requires Inv-loop μ-loop
 is-bounded-requires c κs = search needs
 
+stop-outside-requires-2 : tie.Need-stop-outside-requires-2 Inv-loop μ-loop
+stop-outside-requires-2 c κs = search needs
+
+returns-3 : tie.Need-returns-3 Inv-loop μ-loop
+returns-3 c =
+    let meet = c .before .before .before .before .before .before .before .before .before .before in
+    let told = meet .before .before .before .before .before in
+    let pick = told .before .before .before in
+    let test = pick .before .before .before .before in
+    c .stop-outside2 .ensures
+    ∙ sym (ends-outside (test .before .loop .inv) (test .loop-test .taken) (pick .pick .ensures) (told .before .drawn .given .1)
+    (meet .meet .ensures) (sym (c .before .before .is-bounded .ensures) ∙ not-true _ (c .before .if2 .taken)))
+
+follow-requires : tie.Need-follow-requires Inv-loop μ-loop
+follow-requires c κs =
+    let two = c .before .before .before .before .before in
+    let one = two .before .before in
+    let meet = one .before .before .before .before in
+    let told = meet .before .before .before .before .before in
+    let pick = told .before .before .before in
+    let test = pick .before .before .before .before in
+    let inv = test .before .loop .inv in
+    let given = told .before .drawn .given .1 in (
+      (few inv, both-low inv (test .loop-test .taken) (pick .pick .ensures) given),
+      (
+        agree inv (test .loop-test .taken) (pick .pick .ensures) given (meet .meet .ensures) (one .renew .ensures) (two .renew2 .ensures),
+        others-hold inv (test .loop-test .taken) (pick .pick .ensures) given (meet .meet .ensures) (one .renew .ensures) (two .renew2 .ensures),
+      ),
+    )
+
 loop-less : tie.Need-loop-less Inv-loop μ-loop
-loop-less c = search needs
+loop-less c =
+    let meet = c .before .before .before .before .before .before .before .before .before .before .before .before in
+    let pick = meet .before .before .before .before .before .before .before .before in
+    omega (arith, pick .before .before .before .before .loop-test .taken)
 
 loop-again : tie.Need-loop-again Inv-loop μ-loop
 loop-again c =
-    let bound = c .before in
-    let apply = bound .before .before .before .before in
-    let pick = apply .before .before .before .before in
-    let rows = pick .before .before .before in
-    let l = rows .before .before .loop in
-    let f = l .inv .formed in
-    let few = k-most (l .here) f in
-    let step = apply .before .before .drawn .given .1 in
-    goes-on rules (l .inv) (rows .before .loop-test .taken)
-    (drawn-accepted rules (l .here) _ f few (rows .rows .ensures) (pick .pick .ensures) step ∙ ap (accepted _) (sym (apply .apply .ensures)))
-    (next-formed (l .here) _ f (drawn-allowed rules (l .here) _ f few (rows .rows .ensures) (pick .pick .ensures) step) (apply .apply .ensures)
-    ∙ sym (bound .is-bounded .ensures)
-    ∙ not-false _ (c .if2 .left))
+    let two = c .before .before .before .before .before .before in
+    let one = two .before .before in
+    let meet = one .before .before .before .before in
+    let told = meet .before .before .before .before .before in
+    let pick = told .before .before .before in
+    let test = pick .before .before .before .before in
+    goes-further (test .before .loop .inv) (test .loop-test .taken) (pick .pick .ensures) (told .before .drawn .given .1)
+    (meet .meet .ensures) (one .renew .ensures) (two .renew2 .ensures)
+    (sym (c .before .before .before .before .is-bounded .ensures) ∙ not-false _ (c .before .before .before .if2 .left)) (c .follow .ensures)
+
+total-requires : tie.Need-total-requires Inv-loop μ-loop
+total-requires c κs = search needs
 
 stop-requires-2 : tie.Need-stop-requires-2 Inv-loop μ-loop
 stop-requires-2 c κs = search needs
 
-returns-2 : tie.Need-returns-2 Inv-loop μ-loop
-returns-2 c =
-    let l = c .before .before .loop in
-    let f = l .inv .formed in
-    let few = k-most (l .here) f in
+returns-4 : tie.Need-returns-4 Inv-loop μ-loop
+returns-4 c =
+    let test = c .before .before in
     c .stop2 .ensures
-    ∙ sym (⊎-elim
-    (λ w. rw (w .1, w .2) (ends-used-up rules (l .inv) (w .0 .left)))
-    (⊎-elim
-    (λ w. rw (w .7, w .8) (ends-refused rules (l .inv) (w .0 .taken) NothingAllowed (drawn-nothing rules (l .here) _ f few (w .1 .ensures) (w .4 .ensures) (w .6 .given .1))))
-    (λ w. rw (w .14, w .15)
-    (ends-unformed rules (l .inv) (w .0 .taken)
-    (drawn-accepted rules (l .here) _ f few (w .1 .ensures) (w .4 .ensures) (w .6 .given .1) ∙ ap (accepted _) (sym (w .8 .ensures)))
-    (next-formed (l .here) _ f (drawn-allowed rules (l .here) _ f few (w .1 .ensures) (w .4 .ensures) (w .6 .given .1)) (w .8 .ensures)
-    ∙ sym (w .12 .ensures)
-    ∙ not-true _ (w .13 .taken)))))
-    (c .before .loop-test .came))
+    ∙ sym (used-up-with rules (test .before .loop .inv .running) (filled (test .before .loop .inv)) (test .loop-test .left) (c .before .total .ensures))
 
 pub run-spec : {M : Type 1} → statement M
 run-spec =
@@ -136,23 +225,40 @@ run-spec =
     Inv-loop
     μ-loop
     is-well-formed-requires
-    stop-requires
+    stop-outside-requires
     returns
+    by-state-requires
+    keep-all-requires
+    fill-requires
     loop-holds
-    rows-requires
     slice-aggregate-pick
     mul-pick
     shared-slice-read-pick
     pick-requires
     enum-known-drawn
     enum-told
-    apply-requires
-    cast-receiver
+    stop-requires
+    returns-2
+    cast-j
+    cast-i
+    mul-sender
+    element-copy-out-sender
     mul-receiver
     element-copy-out-receiver
+    meet-requires
+    mul-s
+    element-set-from-s
+    mul-r
+    element-set-from-r
+    renew-requires
+    renew-requires-2
     add-made
     is-bounded-requires
+    stop-outside-requires-2
+    returns-3
+    follow-requires
     loop-less
     loop-again
+    total-requires
     stop-requires-2
-    returns-2)
+    returns-4)

@@ -1,14 +1,16 @@
 -- `rendezvous::step` meets its contract: each return is an outcome of `stepOn` by the tests that lead to it. Assumes nothing.
-use mathlib.Core.Path.{_≡_, sym, _∙_}
+use mathlib.Core.Path.{_≡_, sym, _∙_, ap}
 use mathlib.Core.Bool.{true}
 use Prim.Native.Nat.{_<_}
 use borrow.Author.Needs.{needs}
 use borrow.Author.Tests.{not-true, not-false}
 use Rattle.schedule.specs.Rules.{inRange, allowed}
+use Rattle.schedule.specs.Outcome.{accepted}
 use Rattle.schedule.proofs.Outcomes.{step-unformed, step-outside, step-barred, step-taken}
 use Rattle.rendezvous.specs.Net.{wellFormed}
 use Rattle.rendezvous.specs.Rules.{rules}
-use Rattle.rendezvous.proofs.Laws.{places}
+use Rattle.rendezvous.proofs.Laws.{places, sums-joinable}
+use Rattle.rendezvous.proofs.Going.{made-is}
 use Rattle.rendezvous.proofs.step.Statement.{statement}
 use Rattle.rendezvous.proofs.step.Tie as tie
 
@@ -57,23 +59,23 @@ returns-2 c =
     ∙ sym (step-outside rules (a .t1) (a .step) (formed (c .before .before .before .before))
     (sym (c .before .before .is-in-range .ensures) ∙ not-true _ (c .before .if2 .taken)))
 
-cast-sender : tie.Need-cast-sender
-cast-sender c = search needs
+cast-j : tie.Need-cast-j
+cast-j c = search needs
 
-cast-receiver : tie.Need-cast-receiver
-cast-receiver c = search needs
+cast-i : tie.Need-cast-i
+cast-i c = search needs
 
-mul-s : tie.Need-mul-s
-mul-s c = search needs
+mul-sender : tie.Need-mul-sender
+mul-sender c = search needs
 
-element-copy-out-s : tie.Need-element-copy-out-s
-element-copy-out-s c = low (c .before .before) .0
+element-copy-out-sender : tie.Need-element-copy-out-sender
+element-copy-out-sender c = low (c .before .before) .0
 
-mul-r : tie.Need-mul-r
-mul-r c = search needs
+mul-receiver : tie.Need-mul-receiver
+mul-receiver c = search needs
 
-element-copy-out-r : tie.Need-element-copy-out-r
-element-copy-out-r c = low (c .before .before .before) .1
+element-copy-out-receiver : tie.Need-element-copy-out-receiver
+element-copy-out-receiver c = low (c .before .before .before) .1
 
 may-step-requires : tie.Need-may-step-requires
 may-step-requires c κs = search needs
@@ -90,19 +92,34 @@ returns-3 c =
     ∙ sym (step-barred rules (a .t1) (a .step) (formed first) (ranged second)
     (sym (c .before .before .may-step .ensures) ∙ not-true _ (c .before .if3 .taken)))
 
-make-requires : tie.Need-make-requires
-unfolding allowed
-make-requires c κs =
+meet-requires : tie.Need-meet-requires
+meet-requires c κs =
     let second = c .before .before .before .before .before .before in
-    (formed (second .before .before .before), rw (ranged second) (guarded c))
+    let first = second .before .before .before in
+    let a = first .before .before .args in
+    sums-joinable (a .t1) (formed first) (a .step) (ranged second)
+
+mul-s : tie.Need-mul-s
+mul-s c = search needs
+
+element-set-from-s : tie.Need-element-set-from-s
+element-set-from-s c = low (c .before .before .before .before .before .before .before .before .before) .0
+
+mul-r : tie.Need-mul-r
+mul-r c = search needs
+
+element-set-from-r : tie.Need-element-set-from-r
+element-set-from-r c = low (c .before .before .before .before .before .before .before .before .before) .1
 
 returns-4 : tie.Need-returns-4
+unfolding allowed
 returns-4 c =
-    let third = c .before in
+    let third = c .before .before .before in
     let second = third .before .before .before .before .before .before in
     let first = second .before .before .before in
     let a = first .before .before .args in
-    c .make .ensures ∙ sym (step-taken rules (a .t1) (a .step) (formed first) (ranged second) (guarded third))
+    ap (accepted (a .step)) (made-is (a .t1) (a .step) (rw (ranged second) (guarded third)) (c .before .before .meet .ensures))
+    ∙ sym (step-taken rules (a .t1) (a .step) (formed first) (ranged second) (guarded third))
 
 pub step-spec : {M : Type 1} → statement M
 step-spec =
@@ -114,14 +131,18 @@ step-spec =
     is-in-range-requires
     refuse-requires-2
     returns-2
-    cast-sender
-    cast-receiver
-    mul-s
-    element-copy-out-s
-    mul-r
-    element-copy-out-r
+    cast-j
+    cast-i
+    mul-sender
+    element-copy-out-sender
+    mul-receiver
+    element-copy-out-receiver
     may-step-requires
     refuse-requires-3
     returns-3
-    make-requires
+    meet-requires
+    mul-s
+    element-set-from-s
+    mul-r
+    element-set-from-r
     returns-4)

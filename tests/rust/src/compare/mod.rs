@@ -1,7 +1,5 @@
 //! Comparison of a subject (the proved library, or anything else that answers the same calls) with the model.
 
-#[cfg(feature = "mail")]
-pub mod image;
 pub mod map;
 pub mod net;
 pub mod program;

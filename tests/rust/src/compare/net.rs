@@ -27,7 +27,10 @@ fn assert_same<N: Net>(given: &N, due: &N, after: &impl std::fmt::Debug) {
     for (own, (given, due)) in given.stations().iter().zip(due.stations()).enumerate() {
         assert_eq!(given, due, "station {own} after {after:?}");
     }
-    assert!(given == due, "k or messages after {after:?}");
+    for (sender, (given, due)) in given.outboxes().iter().zip(due.outboxes()).enumerate() {
+        assert_eq!(given, due, "words of sender {sender} after {after:?}");
+    }
+    assert!(given == due, "k after {after:?}");
 }
 
 fn note(call: &Call, reply: &Reply, seen: &mut Coverage) {
@@ -67,13 +70,16 @@ pub fn freshness<N: Sample>(subject: &impl NetCalls<N>, count: u64) {
     seen.require("fresh", [0, 3, 7, 8, 9, 10]);
 }
 
+/// Draws of a run on any net: enough for what a run keeps from step to step to go wrong.
+const LONGEST_RUN: usize = 40;
+
 /// Calls on nets that a caller may hand over, in form or not.
 pub fn hostile<N: Sample>(subject: &impl NetCalls<N>, count: u64) {
     let mut seen = Coverage::default();
     for_cases(count, |rng| {
         let mut net: N = any(rng);
         for _ in 0..4 {
-            let call = call::any(rng, &net, 8);
+            let call = call::any(rng, &net, LONGEST_RUN);
             compare(subject, &mut net, &call, &mut seen);
         }
     });

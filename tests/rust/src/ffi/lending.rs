@@ -38,21 +38,32 @@ pub trait LaidOut: Clone + PartialEq + Debug {
     fn take_back(layout: &Self::Layout) -> Self;
 }
 
-/// Stands on both sides of what is lent: no call may touch it.
-const FENCE: [u64; 4] = [0xa5a5_a5a5_a5a5_a5a5; 4];
+/// Stands around what is lent: no call may touch it.
+#[derive(Clone, PartialEq, Debug)]
+#[repr(C)]
+pub struct Fence([u64; 4]);
+
+impl Fence {
+    pub const INTACT: Fence = Fence([0xa5a5_a5a5_a5a5_a5a5; 4]);
+
+    pub fn assert_untouched(&self) {
+        assert_eq!(*self, Fence::INTACT, "the bytes around a lent value were written");
+    }
+}
 
 #[repr(C)]
 struct Fenced<T> {
-    before: [u64; 4],
+    before: Fence,
     lent: T,
-    after: [u64; 4],
+    after: Fence,
 }
 
 /// Lends a value and takes it back, altered or not.
 pub fn lend_mut<V: LaidOut, R>(value: &mut V, call: impl FnOnce(&mut V::Layout) -> R) -> R {
-    let mut fenced = Fenced { before: FENCE, lent: value.lay_out(), after: FENCE };
+    let mut fenced = Fenced { before: Fence::INTACT, lent: value.lay_out(), after: Fence::INTACT };
     let result = call(&mut fenced.lent);
-    assert_eq!((fenced.before, fenced.after), (FENCE, FENCE), "the bytes around a lent value were written");
+    fenced.before.assert_untouched();
+    fenced.after.assert_untouched();
     *value = V::take_back(&fenced.lent);
     result
 }

@@ -1,112 +1,79 @@
-//! Stations with mail: a box is an enum, which C has not, so the net is lent as an image. Not every image is a net's.
+//! Stations with mail: the stations are lent as a record, the boxes beside it as words.
 
-use super::lending::{LaidOut, Packed};
+use super::lending::{Fence, LaidOut, Packed};
 use super::map::Map;
-use super::net::{Config, Exports, RunAnswer};
-use super::station::{Aggregate, Station};
-use crate::model::mail::{Mail, Mailbox, Message};
+use super::net::{Exports, Line, RunAnswer};
+use crate::model::mail::{Mail, Outbox};
 use crate::model::net::Step;
 use crate::model::PLACES;
 
-pub const EMPTY: u8 = 0;
-pub const START: u8 = 1;
-pub const ANSWER: u8 = 2;
-
-/// A box: what it holds, and what an answer brings.
-#[derive(Clone, Copy, PartialEq, Eq, Debug)]
+/// The sets and the sums of all senders.
+#[derive(Clone)]
 #[repr(C)]
-pub struct Letter {
-    pub content: u8,
-    pub held: Aggregate,
+pub struct Words {
+    starts: [u64; PLACES],
+    answers: [u64; PLACES],
+    sums: [[u64; PLACES]; PLACES],
 }
 
-/// The boxes stand by sender, then receiver.
-#[derive(Clone, PartialEq, Eq, Debug)]
+/// What a call is lent, and no call may touch what stands between.
+#[derive(Clone)]
 #[repr(C)]
-pub struct Image {
-    pub config: Config,
-    pub stations: [Station; PLACES],
-    pub boxes: [Letter; PLACES * PLACES],
+pub struct Net {
+    line: Line,
+    between: Fence,
+    words: Words,
 }
 
 extern "C" {
-    fn tally_mailbox_fresh(net: *mut Image, map: Map) -> Packed;
-    fn tally_mailbox_step(net: *mut Image, kind: u8, sender: u8, receiver: u8) -> Packed;
-    fn tally_mailbox_draw(net: *mut Image, draw: u16) -> Packed;
-    fn tally_mailbox_run(net: *mut Image, draws: *const u16, length: usize) -> RunAnswer;
+    fn tally_mailbox_fresh(line: *mut Line, words: *mut Words, map: Map) -> Packed;
+    fn tally_mailbox_step(line: *mut Line, words: *mut Words, kind: u8, sender: u8, receiver: u8) -> Packed;
+    fn tally_mailbox_draw(line: *mut Line, words: *mut Words, draw: u16) -> Packed;
+    fn tally_mailbox_run(line: *mut Line, words: *mut Words, draws: *const u16, length: usize) -> RunAnswer;
 }
 
-impl LaidOut for Mailbox {
-    type Layout = Letter;
-
-    fn lay_out(&self) -> Letter {
-        let (content, sum) = match *self {
-            None => (EMPTY, 0),
-            Some(Message::Start) => (START, 0),
-            Some(Message::Answer(sum)) => (ANSWER, sum),
-        };
-        Letter { content, held: Aggregate { sum } }
+impl Words {
+    fn of(outboxes: &[Outbox]) -> Words {
+        Words {
+            starts: std::array::from_fn(|sender| outboxes[sender].starts),
+            answers: std::array::from_fn(|sender| outboxes[sender].answers),
+            sums: std::array::from_fn(|sender| outboxes[sender].sums),
+        }
     }
 
-    fn take_back(layout: &Letter) -> Mailbox {
-        match (layout.content, layout.held.sum) {
-            (EMPTY, 0) => None,
-            (START, 0) => Some(Message::Start),
-            (ANSWER, sum) => Some(Message::Answer(sum)),
-            other => panic!("no box has the letter {other:?}"),
-        }
+    fn outboxes(&self) -> Vec<Outbox> {
+        let sets = self.starts.iter().zip(&self.answers).zip(&self.sums);
+        sets.map(|((&starts, &answers), &sums)| Outbox { starts, answers, sums }).collect()
     }
 }
 
 impl LaidOut for Mail {
-    type Layout = Image;
+    type Layout = Net;
 
-    fn lay_out(&self) -> Image {
-        Image {
-            config: Config { k: self.k },
-            stations: self.stations.map(|station| station.lay_out()),
-            boxes: std::array::from_fn(|at| self.boxes[at / PLACES][at % PLACES].lay_out()),
-        }
+    fn lay_out(&self) -> Net {
+        Net { line: Line::of(self.k, &self.stations), between: Fence::INTACT, words: Words::of(&self.outboxes) }
     }
 
-    fn take_back(layout: &Image) -> Mail {
-        let row =
-            |sender| std::array::from_fn(|receiver| LaidOut::take_back(&layout.boxes[sender * PLACES + receiver]));
-        Mail {
-            k: layout.config.k,
-            stations: std::array::from_fn(|i| LaidOut::take_back(&layout.stations[i])),
-            boxes: (0..PLACES).map(row).collect(),
-        }
+    fn take_back(Net { line, between, words }: &Net) -> Mail {
+        between.assert_untouched();
+        Mail { k: line.k(), stations: line.stations(), outboxes: words.outboxes() }
     }
 }
 
-/// An image as it stands, a net's or not.
-impl LaidOut for Image {
-    type Layout = Image;
-
-    fn lay_out(&self) -> Image {
-        self.clone()
-    }
-
-    fn take_back(layout: &Image) -> Image {
-        layout.clone()
-    }
-}
-
-impl Exports for Image {
+impl Exports for Net {
     fn fresh(&mut self, map: Map) -> Packed {
-        unsafe { tally_mailbox_fresh(self, map) }
+        unsafe { tally_mailbox_fresh(&mut self.line, &mut self.words, map) }
     }
 
     fn step(&mut self, Step { kind, sender, receiver }: Step) -> Packed {
-        unsafe { tally_mailbox_step(self, kind, sender, receiver) }
+        unsafe { tally_mailbox_step(&mut self.line, &mut self.words, kind, sender, receiver) }
     }
 
     fn draw(&mut self, draw: u16) -> Packed {
-        unsafe { tally_mailbox_draw(self, draw) }
+        unsafe { tally_mailbox_draw(&mut self.line, &mut self.words, draw) }
     }
 
     unsafe fn run(&mut self, draws: *const u16, length: usize) -> RunAnswer {
-        tally_mailbox_run(self, draws, length)
+        tally_mailbox_run(&mut self.line, &mut self.words, draws, length)
     }
 }

@@ -2,39 +2,30 @@
 
 use super::lending::{LaidOut, Packed};
 use super::map::Map;
-use super::net::{Config, Exports, RunAnswer};
-use super::station::Station;
+use super::net::{Exports, Line, RunAnswer};
 use crate::model::meet::Meet;
 use crate::model::net::Step;
-use crate::model::PLACES;
-
-#[derive(Clone)]
-#[repr(C)]
-pub struct Net {
-    config: Config,
-    stations: [Station; PLACES],
-}
 
 extern "C" {
-    fn tally_rendezvous_fresh(net: *mut Net, map: Map) -> Packed;
-    fn tally_rendezvous_step(net: *mut Net, kind: u8, sender: u8, receiver: u8) -> Packed;
-    fn tally_rendezvous_draw(net: *mut Net, draw: u16) -> Packed;
-    fn tally_rendezvous_run(net: *mut Net, draws: *const u16, length: usize) -> RunAnswer;
+    fn tally_rendezvous_fresh(net: *mut Line, map: Map) -> Packed;
+    fn tally_rendezvous_step(net: *mut Line, kind: u8, sender: u8, receiver: u8) -> Packed;
+    fn tally_rendezvous_draw(net: *mut Line, draw: u16) -> Packed;
+    fn tally_rendezvous_run(net: *mut Line, draws: *const u16, length: usize) -> RunAnswer;
 }
 
 impl LaidOut for Meet {
-    type Layout = Net;
+    type Layout = Line;
 
-    fn lay_out(&self) -> Net {
-        Net { config: Config { k: self.k }, stations: self.stations.map(|station| station.lay_out()) }
+    fn lay_out(&self) -> Line {
+        Line::of(self.k, &self.stations)
     }
 
-    fn take_back(layout: &Net) -> Meet {
-        Meet { k: layout.config.k, stations: std::array::from_fn(|i| LaidOut::take_back(&layout.stations[i])) }
+    fn take_back(layout: &Line) -> Meet {
+        Meet { k: layout.k(), stations: layout.stations() }
     }
 }
 
-impl Exports for Net {
+impl Exports for Line {
     fn fresh(&mut self, map: Map) -> Packed {
         unsafe { tally_rendezvous_fresh(self, map) }
     }

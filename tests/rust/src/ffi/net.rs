@@ -1,17 +1,41 @@
 //! What the wrappers of both kinds of net share.
 
 use super::lending::{lend_mut, lend_slice, LaidOut, Packed};
+use super::station::Station;
 use super::{map, Library};
 use crate::calls::NetCalls;
 use crate::model::map::Map;
 use crate::model::net::{Run, Step};
 use crate::model::refusal::Refusal;
+use crate::model::{station as model, PLACES};
 
 /// What a net is opened with.
-#[derive(Clone, Copy, PartialEq, Eq, Debug)]
+#[derive(Clone, Copy)]
 #[repr(C)]
-pub struct Config {
-    pub k: u8,
+struct Config {
+    k: u8,
+}
+
+/// The stations of a net of either kind; where they meet, the whole net.
+#[derive(Clone)]
+#[repr(C)]
+pub struct Line {
+    config: Config,
+    stations: [Station; PLACES],
+}
+
+impl Line {
+    pub fn of(k: u8, stations: &[model::Station; PLACES]) -> Line {
+        Line { config: Config { k }, stations: stations.each_ref().map(LaidOut::lay_out) }
+    }
+
+    pub fn k(&self) -> u8 {
+        self.config.k
+    }
+
+    pub fn stations(&self) -> [model::Station; PLACES] {
+        self.stations.each_ref().map(LaidOut::take_back)
+    }
 }
 
 /// What a run returns: its number, with 1 where the net is at rest, and the steps made.

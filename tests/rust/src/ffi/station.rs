@@ -6,13 +6,13 @@ use crate::calls::StationCalls;
 use crate::model::refusal::Refusal;
 use crate::model::station::{self as model, Answer, Event};
 
-#[derive(Clone, Copy, PartialEq, Eq, Debug)]
+#[derive(Clone, Copy)]
 #[repr(C)]
 pub struct Aggregate {
-    pub sum: u64,
+    sum: u64,
 }
 
-#[derive(Clone, Copy, PartialEq, Eq, Debug)]
+#[derive(Clone, Copy)]
 #[repr(C)]
 pub struct Station {
     held: Aggregate,

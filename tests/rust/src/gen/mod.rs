@@ -1,7 +1,8 @@
-//! Generators: maps good and damaged, station records, nets, calls, and inputs of the program.
+//! Generators: maps good and damaged, station records, words of mail, nets, calls, and inputs of the program.
 
 pub mod bytes;
 pub mod call;
+mod mail;
 pub mod map;
 pub mod net;
 pub mod station;

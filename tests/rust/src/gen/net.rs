@@ -1,9 +1,10 @@
 //! Nets of both kinds: reachable, in form but not reachable, with sums near 2^62, with anything where nothing may look,
 //! and out of form in one field.
 
+use super::mail::{self, SPARSITIES};
 use super::{call, map, station};
 use crate::model::demand::Record;
-use crate::model::mail::{Mail, Mailbox, Message};
+use crate::model::mail::{Mail, Message};
 use crate::model::meet::Meet;
 use crate::model::net::Net;
 use crate::model::station::Station;
@@ -47,12 +48,10 @@ impl Sample for Meet {
 
 impl Sample for Mail {
     fn scattered(rng: &mut Rng, k: u8, stations: [Station; PLACES]) -> Mail {
-        let mut net = Mail { k, stations, boxes: vec![[None; PLACES]; PLACES] };
-        let full = rng.below(100);
-        for sender in 0..usize::from(k) {
-            for receiver in (0..usize::from(k)).filter(|&receiver| receiver != sender) {
-                net.boxes[sender][receiver] = if rng.chance(full) { Some(message(rng)) } else { None };
-            }
+        let sparsity = rng.pick(&SPARSITIES);
+        let mut net = Mail { k, stations, outboxes: (0..PLACES).map(|_| mail::any(rng, sparsity)).collect() };
+        for (sender, outbox) in (0..k).zip(&mut net.outboxes) {
+            mail::bring_into_form(rng, outbox, sender, k);
         }
         net
     }
@@ -63,13 +62,8 @@ impl Sample for Mail {
 
     fn litter(&mut self, rng: &mut Rng) {
         litter_stations(rng, self.k, &mut self.stations);
-        let k = usize::from(self.k);
-        for (sender, row) in self.boxes.iter_mut().enumerate() {
-            for (receiver, mailbox) in row.iter_mut().enumerate() {
-                if sender >= k || receiver >= k || sender == receiver {
-                    *mailbox = any_box(rng);
-                }
-            }
+        for (sender, outbox) in (0..).zip(&mut self.outboxes) {
+            mail::litter(rng, outbox, sender, self.k);
         }
     }
 
@@ -79,21 +73,10 @@ impl Sample for Mail {
         }
         let sender = rng.station(self.k);
         let receiver = (sender + 1 + rng.station(self.k - 1)) % self.k;
-        self.boxes[usize::from(sender)][usize::from(receiver)] = Some(Message::Answer(rng.pick(&station::SUMS[3..])));
+        let sum = rng.pick(&station::SUMS[3..]);
+        self.outboxes[usize::from(sender)].post(receiver, Message::Answer(sum));
         true
     }
-}
-
-fn message(rng: &mut Rng) -> Message {
-    if rng.chance(50) {
-        Message::Start
-    } else {
-        Message::Answer(station::sum_in_form(rng))
-    }
-}
-
-fn any_box(rng: &mut Rng) -> Mailbox {
-    rng.pick(&[None, Some(Message::Start), Some(Message::Answer(u64::MAX)), Some(Message::Answer(7))])
 }
 
 fn litter_stations(rng: &mut Rng, k: u8, stations: &mut [Station; PLACES]) {

@@ -1,4 +1,5 @@
-//! Stations with mail (document 01, after document 001, section 7): a delivery is one step, its posts included.
+//! Stations with mail (document 01, after document 001, section 7): a delivery is one step, its posts included. The
+//! boxes are read from words and written to words; every array of words is a net's.
 
 use super::map::Map;
 use super::net::{are_well_formed, fresh_stations, unfinished_total, Net, Step};
@@ -17,48 +18,86 @@ pub enum Message {
 /// A box, empty or full.
 pub type Mailbox = Option<Message>;
 
+/// The words for the boxes of one sender.
+#[derive(Clone, Copy, PartialEq, Eq, Debug)]
+pub struct Outbox {
+    /// The receivers to which a start waits.
+    pub starts: u64,
+    /// Those to which an answer waits, unless a start does.
+    pub answers: u64,
+    /// What an answer to each receiver brings; beside no answer it is not looked at.
+    pub sums: [u64; PLACES],
+}
+
+impl Outbox {
+    pub const EMPTY: Outbox = Outbox { starts: 0, answers: 0, sums: [0; PLACES] };
+
+    /// Where both bits are set the box holds the start.
+    pub fn mailbox(&self, receiver: u8) -> Mailbox {
+        if set::contains(self.starts, receiver) {
+            Some(Message::Start)
+        } else if set::contains(self.answers, receiver) {
+            Some(Message::Answer(self.sums[usize::from(receiver)]))
+        } else {
+            None
+        }
+    }
+
+    /// Both bits go, and the word of the sum stays.
+    fn empty(&mut self, receiver: u8) {
+        self.starts = set::without(self.starts, receiver);
+        self.answers = set::without(self.answers, receiver);
+    }
+
+    /// A post replaces what the box held; a start leaves the word of the sum.
+    pub fn post(&mut self, receiver: u8, message: Message) {
+        self.empty(receiver);
+        match message {
+            Message::Start => self.starts |= set::singleton(receiver),
+            Message::Answer(sum) => {
+                self.answers |= set::singleton(receiver);
+                self.sums[usize::from(receiver)] = sum;
+            }
+        }
+    }
+
+    fn post_starts(&mut self, receivers: u64) {
+        set::members(receivers).for_each(|receiver| self.post(receiver, Message::Start));
+    }
+}
+
 #[derive(Clone, PartialEq, Eq, Debug)]
 pub struct Mail {
     pub k: u8,
     /// A station's set holds its neighbours and stays.
     pub stations: [Station; PLACES],
-    /// By sender, then receiver. A station has no box to itself: that place is neither looked at nor touched.
-    pub boxes: Vec<[Mailbox; PLACES]>,
+    /// By sender. Boxes past k, and of a station to itself, are neither looked at nor touched.
+    pub outboxes: Vec<Outbox>,
 }
 
 impl Mail {
-    pub fn mailbox(&self, sender: u8, receiver: u8) -> Mailbox {
-        self.boxes[usize::from(sender)][usize::from(receiver)]
+    fn outbox(&mut self, sender: u8) -> &mut Outbox {
+        &mut self.outboxes[usize::from(sender)]
     }
 
-    /// A post replaces what the box held.
-    fn post(&mut self, sender: u8, receiver: u8, message: Message) {
-        self.boxes[usize::from(sender)][usize::from(receiver)] = Some(message);
-    }
-
-    fn post_starts(&mut self, sender: u8, receivers: u64) {
-        for receiver in set::members(receivers) {
-            self.post(sender, receiver, Message::Start);
-        }
-    }
-
-    /// The boxes that exist: of ordered pairs of different stations below k.
+    /// In the boxes that exist: of ordered pairs of different stations below k.
     fn messages(&self) -> impl Iterator<Item = Message> + '_ {
-        let pairs = (0..self.k).flat_map(|sender| (0..self.k).map(move |receiver| (sender, receiver)));
-        pairs
-            .filter(|(sender, receiver)| sender != receiver)
-            .filter_map(|(sender, receiver)| self.mailbox(sender, receiver))
+        (0..self.k).zip(&self.outboxes).flat_map(|(sender, outbox)| {
+            let receivers = (0..self.k).filter(move |&receiver| receiver != sender);
+            receivers.filter_map(|receiver| outbox.mailbox(receiver))
+        })
     }
 
     fn deliver(&mut self, sender: u8, receiver: u8) {
-        let message = self.boxes[usize::from(sender)][usize::from(receiver)].take();
+        let message = self.outbox(sender).mailbox(receiver);
+        self.outbox(sender).empty(receiver);
         let station = &mut self.stations[usize::from(receiver)];
         match message {
             Some(Message::Answer(sum)) => station.take_answer(sum),
             _ if station.state == ASLEEP => {
                 station.wake(sender);
                 let others = set::without(station.unstarted, sender);
-                self.post_starts(receiver, others);
+                self.outbox(receiver).post_starts(others);
             }
             _ => station.wait_less(),
         }
@@ -71,7 +110,7 @@ impl Mail {
         let station = &mut self.stations[usize::from(receiver)];
         if receiver != ROOT && station.waits == 0 {
             let answer = station.finish();
-            self.post(receiver, answer.parent, Message::Answer(answer.sum));
+            self.outbox(receiver).post(answer.parent, Message::Answer(answer.sum));
         }
     }
 }
@@ -80,8 +119,8 @@ impl Net for Mail {
     const REPORT: u8 = REPORT;
 
     fn set_up(map: &Map) -> Mail {
-        let mut net = Mail { k: map.k, stations: fresh_stations(map), boxes: vec![[None; PLACES]; PLACES] };
-        net.post_starts(ROOT, map.neighbours[usize::from(ROOT)]);
+        let mut net = Mail { k: map.k, stations: fresh_stations(map), outboxes: vec![Outbox::EMPTY; PLACES] };
+        net.outbox(ROOT).post_starts(map.neighbours[usize::from(ROOT)]);
         net
     }
 
@@ -97,6 +136,10 @@ impl Net for Mail {
         &mut self.stations
     }
 
+    fn outboxes(&self) -> &[Outbox] {
+        &self.outboxes
+    }
+
     fn is_well_formed(&self) -> bool {
         are_well_formed(self.k, &self.stations)
             && self.messages().all(|message| !matches!(message, Message::Answer(sum) if sum >= SUM_LIMIT))
@@ -108,7 +151,7 @@ impl Net for Mail {
             return receiver.state == ACTIVE && receiver.waits == 0;
         }
         step.sender != step.receiver
-            && match self.mailbox(step.sender, step.receiver) {
+            && match self.outboxes[usize::from(step.sender)].mailbox(step.receiver) {
                 Some(Message::Start) => receiver.state != FINISHED,
                 Some(Message::Answer(_)) => receiver.state == ACTIVE,
                 None => false,

@@ -1,5 +1,6 @@
 //! What both kinds of net share: fresh stations, form, the listing of allowed steps, steps, draws and runs.
 
+use super::mail::Outbox;
 use super::map::{self, Map};
 use super::refusal::{admit, Cause, Refusal};
 use super::station::{Station, ACTIVE, ASLEEP, FINISHED};
@@ -33,6 +34,11 @@ pub trait Net: Clone + PartialEq + Debug {
     fn stations(&self) -> &[Station; PLACES];
 
     fn stations_mut(&mut self) -> &mut [Station; PLACES];
+
+    /// The words of the boxes, by sender; none where stations meet.
+    fn outboxes(&self) -> &[Outbox] {
+        &[]
+    }
 
     /// Form (11); it looks at the places below k only.
     fn is_well_formed(&self) -> bool;

@@ -1,15 +1,26 @@
--- `capi::mailbox_net::fresh` meets its contract: a refused map leaves the lent image, an accepted one the image of its fresh net.
+-- `capi::mailbox_net::fresh` meets its contract: a refused map leaves the lent stations and mailboxes, an accepted one its fresh net.
 -- Assumes nothing.
-use mathlib.Core.Path.{sym, ap, _∙_}
+use mathlib.Core.Path.{_≡_, sym, ap, _∙_}
+use mathlib.Core.Bool.{Bool, false, cond}
+use mathlib.Core.List.{List}
+use Prim.Native.Nat.{ℕ}
 use borrow.Author.Needs.{needs}
+use Rattle.topology.specs.Answer.{isAccepted}
 use Rattle.topology.specs.Acceptance.{faultNumbers, verdictNumbers}
 use Rattle.topology.proofs.Answers.{fault-refuses}
-use Rattle.linemap.specs.Openings.{Opening}
-use Rattle.mailbox.specs.declared.Net.{Net}
-use Rattle.capi.specs.Mailbox.{imageOf}
+use Rattle.linemap.specs.declared.Map.{Map}
+use Rattle.linemap.specs.Openings.{Opening, openingBy}
+use Rattle.mailbox.specs.Net.{Net}
+use Rattle.mailbox.specs.Net.{netOf}
+use Rattle.mailbox.specs.Opening.{freshOn, unopened, opening}
+use Rattle.capi.specs.Answers.{called}
 use Rattle.capi.proofs.Calls.{refused-leaves, accepted-replaces}
 use Rattle.capi.proofs.mailbox_net.fresh.Statement.{statement}
 use Rattle.capi.proofs.mailbox_net.fresh.Tie as tie
+
+refused-opens-none : (m : Map) (boxes : List ℕ) → isAccepted (opening m boxes .numbers) ≡ false → opening m boxes .net .boxes ≡ boxes
+unfolding openingBy
+refused-opens-none m boxes refused = ap (λ (b : Bool). cond {A = Net} b (freshOn m) (netOf unopened boxes) .boxes) refused
 
 fresh-requires : tie.Need-fresh-requires
 fresh-requires c κs = search needs
@@ -23,23 +34,25 @@ fault-requires c κs = search needs
 returns : tie.Need-returns
 returns c =
     let why = c .before .before .verdict .given in
-    refused-leaves _ _ _ (faultNumbers (why .0 .0)) _
-    (sym (ap verdictNumbers (why .1)) ∙ ap (λ (o : Opening Net). o .numbers) (c .before .before .before .before .fresh .ensures))
-    (fault-refuses (why .0 .0)) (c .fault .ensures)
+    let opened = c .before .before .before .before .fresh .ensures in
+    let start = c .before .before .before .before .before .before .args in
+    let numbers : faultNumbers (why .0 .0) ≡ opening (start .map) (start .boxes .now) .numbers =
+    sym (ap verdictNumbers (why .1)) ∙ ap (λ (o : Opening Net). o .numbers) opened in
+    let refused : isAccepted (opening (start .map) (start .boxes .now) .numbers) ≡ false = sym (ap isAccepted numbers) ∙ fault-refuses (why .0 .0) in
+    ap (λ (boxes : List ℕ). called (c .fault .result) (netOf (start .before) boxes))
+    (ap (λ (o : Opening Net). o .net .boxes) opened ∙ refused-opens-none (start .map) (start .boxes .now) refused)
+    ∙ refused-leaves _ _ _ (faultNumbers (why .0 .0)) _ numbers (fault-refuses (why .0 .0)) (c .fault .ensures)
 
 enum-told : tie.Need-enum-told
 enum-told c = search needs
 
-image-of-requires : tie.Need-image-of-requires
-image-of-requires c κs = search needs
-
 returns-2 : tie.Need-returns-2
 returns-2 c =
-    let opened = c .before .before .before .before .fresh .ensures in
-    accepted-replaces _ _ _ _ (sym (ap verdictNumbers (c .before .before .enum-told .given .1)) ∙ ap (λ (o : Opening Net). o .numbers) opened)
-    (c .image-of .ensures ∙ ap (λ (o : Opening Net). imageOf (o .net)) opened)
+    let opened = c .before .before .before .fresh .ensures in
+    accepted-replaces _ _ _ _ (sym (ap verdictNumbers (c .before .enum-told .given .1)) ∙ ap (λ (o : Opening Net). o .numbers) opened)
+    (ap (λ (o : Opening Net). o .net) opened)
 
 pub fresh-spec : {M : Type 1} → statement M
 fresh-spec =
     tie.close
-    (tie.spec fresh-requires enum-known-verdict fault-requires returns enum-told image-of-requires returns-2)
+    (tie.spec fresh-requires enum-known-verdict fault-requires returns enum-told returns-2)

@@ -4,9 +4,10 @@ use mir.Syntax.{w16}
 use Rattle.lent.proofs.Data.{numbers}
 use Rattle.lent.proofs.Law.{proved}
 use Rattle.schedule.specs.Draws.{runOn}
+use Rattle.mailbox.specs.Net.{netOf}
 use Rattle.mailbox.specs.Rules.{rules}
-use Rattle.capi.specs.Mailbox.{runOnImage}
-use Rattle.capi.proofs.Lent.{run-on-image}
+use Rattle.capi.specs.Steps.{runCall}
+use Rattle.capi.proofs.Lent.{run-on-line}
 use Rattle.capi.proofs.mailbox_net.run.Symbol as by-value
 use Rattle.capi.proofs.mailbox_net.run.Met as by-value-met
 use Rattle.capi.proofs.mailbox_net.tally_mailbox_run.Key as key
@@ -16,5 +17,6 @@ use Rattle.capi.proofs.mailbox_net.tally_mailbox_run.Code as code
 pub tally-mailbox-run-spec : {M : Type 1} → statement M
 unfolding code.routine
 tally-mailbox-run-spec 𝓤 H 𝓜 𝓖 𝓡 =
-    proved 𝓤 H 𝓜 𝓖 𝓡 (run-on-image (numbers w16 ∷ []) (λ κs a w. runOnImage w (λ n. runOn rules n (a .0 .now)))) code.env key.name by-value.name by-value.routine
+    proved 𝓤 H 𝓜 𝓖 𝓡 (run-on-line (numbers 1 tt w16 ∷ []) (λ κs a line. runCall (runOn rules (netOf line (a .0 .now)) (a .1 .0 .now))))
+    code.env key.name by-value.name by-value.routine
     (code.unfolded 𝓤 H 𝓜 𝓡) code.calls-capi·mailbox-net·run (by-value-met.met 𝓤 H 𝓜 𝓖 𝓡)

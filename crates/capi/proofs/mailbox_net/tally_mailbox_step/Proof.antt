@@ -4,10 +4,10 @@ use mir.Syntax.{w8}
 use Rattle.lent.proofs.Data.{number}
 use Rattle.lent.proofs.Law.{proved}
 use Rattle.schedule.specs.Draws.{stepOn}
+use Rattle.mailbox.specs.Net.{netOf}
 use Rattle.mailbox.specs.Rules.{rules}
-use Rattle.capi.specs.Steps.{stepAt}
-use Rattle.capi.specs.Mailbox.{stepOnImage}
-use Rattle.capi.proofs.Lent.{on-image}
+use Rattle.capi.specs.Steps.{stepAt, stepCall}
+use Rattle.capi.proofs.Lent.{on-line}
 use Rattle.capi.proofs.mailbox_net.step.Symbol as by-value
 use Rattle.capi.proofs.mailbox_net.step.Met as by-value-met
 use Rattle.capi.proofs.mailbox_net.tally_mailbox_step.Key as key
@@ -17,5 +17,7 @@ use Rattle.capi.proofs.mailbox_net.tally_mailbox_step.Code as code
 pub tally-mailbox-step-spec : {M : Type 1} → statement M
 unfolding code.routine
 tally-mailbox-step-spec 𝓤 H 𝓜 𝓖 𝓡 =
-    proved 𝓤 H 𝓜 𝓖 𝓡 (on-image (number w8 ∷ number w8 ∷ number w8 ∷ []) (λ κs a w. stepOnImage w (λ n. stepOn rules n (stepAt (a .0) (a .1 .0) (a .1 .1 .0))))) code.env key.name by-value.name by-value.routine
+    proved 𝓤 H 𝓜 𝓖 𝓡 (on-line (number w8 ∷ number w8 ∷ number w8 ∷ [])
+    (λ κs a line. stepCall (stepOn rules (netOf line (a .0 .now)) (stepAt (a .1 .0) (a .1 .1 .0) (a .1 .1 .1 .0)))))
+    code.env key.name by-value.name by-value.routine
     (code.unfolded 𝓤 H 𝓜 𝓡) code.calls-capi·mailbox-net·step (by-value-met.met 𝓤 H 𝓜 𝓖 𝓡)

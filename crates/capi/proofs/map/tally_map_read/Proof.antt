@@ -14,5 +14,5 @@ use Rattle.capi.proofs.map.tally_map_read.Code as code
 pub tally-map-read-spec : {M : Type 1} → statement M
 unfolding code.routine
 tally-map-read-spec 𝓤 H 𝓜 𝓖 𝓡 =
-    proved 𝓤 H 𝓜 𝓖 𝓡 (on-map (numbers w8 ∷ []) (λ κs a m. readCall (a .0 .now) m)) code.env key.name by-value.name by-value.routine
+    proved 𝓤 H 𝓜 𝓖 𝓡 (on-map (numbers 0 tt w8 ∷ []) (λ κs a m. readCall (a .0 .now) m)) code.env key.name by-value.name by-value.routine
     (code.unfolded 𝓤 H 𝓜 𝓡) code.calls-capi·map·read (by-value-met.met 𝓤 H 𝓜 𝓖 𝓡)

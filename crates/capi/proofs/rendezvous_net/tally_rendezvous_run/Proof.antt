@@ -16,5 +16,5 @@ use Rattle.capi.proofs.rendezvous_net.tally_rendezvous_run.Code as code
 pub tally-rendezvous-run-spec : {M : Type 1} → statement M
 unfolding code.routine
 tally-rendezvous-run-spec 𝓤 H 𝓜 𝓖 𝓡 =
-    proved 𝓤 H 𝓜 𝓖 𝓡 (run-on-net (numbers w16 ∷ []) (λ κs a n. runCall (runOn rules n (a .0 .now)))) code.env key.name by-value.name by-value.routine
+    proved 𝓤 H 𝓜 𝓖 𝓡 (run-on-net (numbers 0 tt w16 ∷ []) (λ κs a n. runCall (runOn rules n (a .0 .now)))) code.env key.name by-value.name by-value.routine
     (code.unfolded 𝓤 H 𝓜 𝓡) code.calls-capi·rendezvous-net·run (by-value-met.met 𝓤 H 𝓜 𝓖 𝓡)

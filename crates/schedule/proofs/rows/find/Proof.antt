@@ -1,64 +1,53 @@
--- `schedule::rows::find` meets its contract: before each kind the entry looked for is entry `left` of the kinds still to be searched.
--- Assumes nothing.
-use mathlib.Core.Path.{refl, sym, _∙_}
-use Prim.Native.Nat.{_+_, _-_}
+-- `schedule::rows::find` meets its contract: each return is the arm of its tests. Assumes nothing.
 use native.Mathlib.Omega.{arith}
-use borrow.Author.Needs.{needs}
-use Rattle.schedule.specs.Rows.{entry, inRows, listedIn}
-use Rattle.schedule.proofs.Scan.{AtKind, kinds-end, kind-met, kind-passed}
+use borrow.Author.Tests.{lt-ltb, le-ltb}
+use Rattle.schedule.specs.Rows.{entryBySize}
 use Rattle.schedule.proofs.rows.find.Statement.{statement}
 use Rattle.schedule.proofs.rows.find.Tie as tie
 
-abbrev Inv-loop : tie.InvT-loop
-Inv-loop rows kinds k index left₀ kind₀ left kind = AtKind (inRows rows) (entry (listedIn rows kinds k) index) 64 kinds k (kind + 1) left
-
-abbrev μ-loop : tie.MeasureT-loop
-μ-loop rows kinds k index left₀ kind₀ left kind = kinds - kind
-
-loop-holds : tie.Need-loop-holds Inv-loop μ-loop
-unfolding listedIn
-loop-holds c = record { same = refl }
-
-add-kind : tie.Need-add-kind Inv-loop μ-loop
-add-kind c = search needs
-
-find-of-kind-requires : tie.Need-find-of-kind-requires Inv-loop μ-loop
+find-of-kind-requires : tie.Need-find-of-kind-requires
 find-of-kind-requires c κs = omega arith
 
-enum-known-found : tie.Need-enum-known-found Inv-loop μ-loop
-enum-known-found c = search needs
+returns : tie.Need-returns
+unfolding entryBySize
+returns c = rw (lt-ltb _ _ (c .before .if1 .taken)) (c .find-of-kind .ensures)
 
-returns : tie.Need-returns Inv-loop μ-loop
-returns c =
-    let at = c .before .before .before in
-    kind-met _ (omega (arith, at .before .loop-test .taken)) (sym (c .before .found .given .1) ∙ at .find-of-kind .ensures) (at .before .before .loop .inv)
+find-of-kind-requires-2 : tie.Need-find-of-kind-requires-2
+find-of-kind-requires-2 c κs = omega arith
 
-enum-known-found-2 : tie.Need-enum-known-found-2 Inv-loop μ-loop
-enum-known-found-2 c = search needs
+returns-2 : tie.Need-returns-2
+unfolding entryBySize
+returns-2 c =
+    rw (le-ltb _ _ (c .before .before .before .before .if1 .left), lt-ltb _ _ (c .before .if2 .taken)) (c .find-of-kind2 .ensures)
 
-loop-less : tie.Need-loop-less Inv-loop μ-loop
-loop-less c = search needs
+find-of-kind-requires-3 : tie.Need-find-of-kind-requires-3
+find-of-kind-requires-3 c κs = omega arith
 
-loop-again : tie.Need-loop-again Inv-loop μ-loop
-loop-again c =
-    let at = c .before .before .before in
-    kind-passed _ (omega (arith, at .before .loop-test .taken)) (sym (c .before .found2 .given .1) ∙ at .find-of-kind .ensures) (at .before .before .loop .inv)
+returns-3 : tie.Need-returns-3
+unfolding entryBySize
+returns-3 c =
+    let two = c .before .before .before .before in
+    rw (le-ltb _ _ (two .before .before .before .if1 .left), le-ltb _ _ (two .if2 .left), lt-ltb _ _ (c .before .if3 .taken)) (c .find-of-kind3 .ensures)
 
-returns-2 : tie.Need-returns-2 Inv-loop μ-loop
-returns-2 c = kinds-end (omega (arith, c .loop-test .left)) (c .before .loop .inv)
+find-of-kind-requires-4 : tie.Need-find-of-kind-requires-4
+find-of-kind-requires-4 c κs = omega arith
+
+returns-4 : tie.Need-returns-4
+unfolding entryBySize
+returns-4 c =
+    let three = c .before .before in
+    let two = three .before .before .before in
+    rw (le-ltb _ _ (two .before .before .before .if1 .left), le-ltb _ _ (two .if2 .left), le-ltb _ _ (three .if3 .left)) (c .find-of-kind4 .ensures)
 
 pub find-spec : {M : Type 1} → statement M
 find-spec =
     tie.close
     (tie.spec
-    Inv-loop
-    μ-loop
-    loop-holds
-    add-kind
     find-of-kind-requires
-    enum-known-found
     returns
-    enum-known-found-2
-    loop-less
-    loop-again
-    returns-2)
+    find-of-kind-requires-2
+    returns-2
+    find-of-kind-requires-3
+    returns-3
+    find-of-kind-requires-4
+    returns-4)

@@ -1,33 +1,30 @@
--- `schedule::rows::pick` meets its contract: d mod c is an entry of a list of c steps. Assumes nothing.
+-- `schedule::rows::pick` meets its contract: the total decides, and what is found. Assumes nothing.
 use mathlib.Core.Path.{_≡_, sym, _∙_, ap}
-use mathlib.Core.List.{List}
+use mathlib.Core.Bool.{false}
 use Prim.Native.Nat.{ℕ, _%_}
-use lib.ListN.{length}
+use lib.Dec.{eqb}
 use borrow.Author.Needs.{needs}
-use Rattle.schedule.specs.declared.Step.{Step}
-use Rattle.schedule.specs.Rows.{entry, listedIn}
-use Rattle.schedule.proofs.Picks.{picked-none, picked-entry, not-beyond}
+use borrow.Author.Tests.{eq-eqb, ne-eqb}
+use Rattle.schedule.specs.Rows.{totalOf, entryBySize, stepFound, pickedBySize}
 use Rattle.schedule.proofs.rows.pick.Statement.{statement}
 use Rattle.schedule.proofs.rows.pick.Tie as tie
 
--- the steps that the rows list
-abbrev steps : tie.After-find → List Step
-steps c = let a = c .before .before .before .before .args in listedIn (a .rows .now) (a .kinds) (a .k)
+-- what is found is what the contract names
+found : (c : tie.After-find) → let a = c .before .before .before .before .args in
+    stepFound (c .find .result) ≡ pickedBySize (a .rows .now) (a .sizes) (a .k) (a .d)
+unfolding pickedBySize
+found c =
+    let a = c .before .before .before .before .args in
+    let total = c .before .before .total .ensures in
+    let some : eqb (totalOf (a .sizes)) 0 ≡ false = ne-eqb _ 0 (λ z. c .before .if1 .left (total ∙ z)) in
+    rw some (ap stepFound (c .find .ensures ∙ ap (λ (n : ℕ). entryBySize (a .rows .now) (a .sizes) (a .k) (a .d % n)) total))
 
-some : (c : tie.After-find) → length (steps c) ≡ 0 → ⊥
-some c = λ z. c .before .if1 .left (c .before .before .count .ensures ∙ z)
-
--- what is found is the entry that the draw picks
-found-entry : (c : tie.After-find) → c .find .result ≡ entry (steps c) (c .before .before .before .before .args .d % length (steps c))
-found-entry c =
-    c .find .ensures
-    ∙ ap (λ (n : ℕ). entry (steps c) (c .before .before .before .before .args .d % n)) (c .before .before .count .ensures)
-
-count-requires : tie.Need-count-requires
-count-requires c κs = search needs
+total-requires : tie.Need-total-requires
+total-requires c κs = search needs
 
 returns : tie.Need-returns
-returns c = picked-none _ _ (sym (c .before .count .ensures) ∙ c .if1 .taken)
+unfolding pickedBySize
+returns c = rw (eq-eqb _ 0 (sym (c .before .total .ensures) ∙ c .if1 .taken))
 
 rem-find : tie.Need-rem-find
 rem-find c = search needs
@@ -42,20 +39,16 @@ enum-told : tie.Need-enum-told
 enum-told c = search needs
 
 returns-2 : tie.Need-returns-2
-returns-2 c =
-    let find = c .before .before .before in
-    picked-entry (steps find) _ _ (some find) (sym (c .before .found .given .1) ∙ found-entry find)
+returns-2 c = sym (ap stepFound (c .before .found .given .1)) ∙ found (c .before .before .before)
 
 returns-3 : tie.Need-returns-3
-returns-3 c =
-    let find = c .before .before in
-    absurd (not-beyond (steps find) _ _ (some find) (sym (c .enum-told .given .1) ∙ found-entry find))
+returns-3 c = sym (ap stepFound (c .enum-told .given .1)) ∙ found (c .before .before)
 
 pub pick-spec : {M : Type 1} → statement M
 pick-spec =
     tie.close
     (tie.spec
-    count-requires
+    total-requires
     returns
     rem-find
     find-requires

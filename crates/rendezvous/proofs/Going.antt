@@ -1,0 +1,181 @@
+-- The loop of a run, as the code has it: what every station may send, who is in which state, and the rows are known of the net reached. A step
+-- changes two stations, one after the other. Assumes nothing.
+use mathlib.Core.Path.{_≡_, sym, _∙_, ap, ap₂, subst}
+use mathlib.Core.Bool.{true, false}
+use mathlib.Core.List.{List}
+use Prim.Native.Nat.{ℕ, _+_, _^_, _≤_, _<_}
+use native.Mathlib.Nat.{lt-of-lt-of-le}
+use native.Mathlib.Omega.{arith}
+use lib.ListN.{length, getD, length-set}
+use lib.Seq.{set-set, getD-set-same, getD-set-other}
+use lib.Dec.{eqb}
+use lib.Pow.{pow-mono}
+use borrow.Author.Tests.{eqb-false}
+use Rattle.refusal.specs.declared.Refusal.the-variants.{OutOfForm}
+use Rattle.refusal.specs.Refusal.{numberOf}
+use Rattle.finite.proofs.Cases.{by-bool}
+use Rattle.bitset.specs.Set.{put}
+use Rattle.bitset.proofs.Selected.{set-lt}
+use Rattle.bitset.proofs.Unions.{put-set}
+use Rattle.aggregate.specs.Aggregate.{bounded, joinable}
+use Rattle.station.specs.declared.Station.{Station}
+use Rattle.station.specs.Events.{asleep, active}
+use Rattle.stations.specs.Stations.{outside}
+use Rattle.schedule.specs.declared.Step.{Step}
+use Rattle.schedule.specs.declared.rows.Drawn.{Drawn}
+use Rattle.schedule.specs.declared.rows.Drawn.the-variants as drawn
+use Rattle.schedule.specs.declared.rows.Sizes.{Sizes}
+use Rattle.schedule.specs.Rules.{allowed}
+use Rattle.schedule.specs.Rows.{rowAt, pickedBySize, Filled, others}
+use Rattle.schedule.specs.Draws.{runOn}
+use Rattle.schedule.proofs.Answers.{allowed-parts}
+use Rattle.schedule.proofs.Listing.{range-bounds, Bounds}
+use Rattle.schedule.proofs.Drawing.{drawn-allowed}
+use Rattle.schedule.proofs.Running.{Running, goes-on-with, unformed-with}
+use Rattle.rendezvous.specs.declared.Net.{Net}
+use Rattle.rendezvous.specs.declared.listing.States.{States}
+use Rattle.rendezvous.specs.declared.listing.Sends.{Sends}
+use Rattle.rendezvous.specs.declared.figure.Two.{Two}
+use Rattle.rendezvous.specs.Net.{station, wellFormed, withOne, withTwo}
+use Rattle.rendezvous.specs.Figure.{wake, pass, answer, applied, metBy}
+use Rattle.rendezvous.specs.Receivers.{inState, statesOf, restated, keptAt, takersIn, Agree, Renewed, AreSends, HoldTakers, HoldSome}
+use Rattle.rendezvous.specs.Rules.{rules}
+use Rattle.rendezvous.proofs.Laws.{k-most, sums-joinable}
+use Rattle.rendezvous.proofs.Places.{two-receiver}
+use Rattle.rendezvous.proofs.RowSets.{rows-filled}
+use Rattle.rendezvous.proofs.Kept.{kept-one}
+use Rattle.rendezvous.proofs.Following.{states-agree, kept-others}
+use Rattle.rendezvous.proofs.FormAfter.{next-formed}
+
+-- what is known of a net while a run goes on
+pub record Known (net : Net) (kept : List ℕ) (states : States) : Type 0 where
+  pub sends-are : AreSends net (net .config .k) kept
+  pub states-are : states ≡ statesOf net
+  pub full : length (net .stations) ≡ 64
+
+-- one station comes to be s
+module _ (net : Net) (few : net .config .k ≤ 64) (full : length (net .stations) ≡ 64) (j : ℕ) (low : j < net .config .k) (s : Station) where
+  own : station (withOne net j s) j ≡ s
+  own = getD-set-same (net .stations) j s outside (omega (arith, full, low, few))
+
+  other : (x : ℕ) → (x ≡ j → ⊥) → station (withOne net j s) x ≡ station net x
+  other x n = getD-set-other (net .stations) j x s outside n
+
+  in-state-one : (state : ℕ) → put j (eqb (s .state) state) (inState net state) ≡ inState (withOne net j s) state
+  unfolding inState
+  in-state-one state =
+      put-set (net .config .k) j (eqb (s .state) state) _ _ few low (ap (λ (x : Station). eqb (x .state) state) own)
+      (λ i n. ap (λ (x : Station). eqb (x .state) state) (other i n))
+
+  states-one : restated j (s .state) (statesOf net) ≡ statesOf (withOne net j s)
+  states-one = ap₂ (λ (a b : ℕ). record { asleep = a; active = b }) (in-state-one asleep) (in-state-one active)
+
+  known-one : {kept kept′ : List ℕ} {states states′ : States} → Known net kept states → Renewed (net .config) j s kept states kept′ states′
+      → Known (withOne net j s) kept′ states′
+  known-one K r =
+      record {
+        sends-are = subst (AreSends (withOne net j s) (net .config .k)) (sym (r .0)) (kept-one net j s few low own other (K .sends-are));
+        states-are = r .1 ∙ ap (restated j (s .state)) (K .states-are) ∙ states-one;
+        full = length-set (net .stations) j s ∙ full;
+      }
+
+-- the two stations of an allowed step, written one after the other
+pub made-is : (net : Net) (s : Step) {two : Two} → allowed rules net s ≡ true
+    → two ≡ metBy (net .config) (s .kind) (s .sender) (s .receiver) (station net (s .sender)) (station net (s .receiver))
+    → withTwo net (s .sender) (two .sender) (s .receiver) (two .receiver) ≡ rules .apply net s
+unfolding metBy applied
+made-is net s a u =
+    let kind = s .kind in
+    let j = s .sender in
+    let b = range-bounds rules net s (allowed-parts rules net s a .0) in
+    rw u
+    (by-bool (eqb kind wake) (λ w. rw w)
+    (λ w. by-bool (eqb kind pass) (λ p. rw (w, p))
+    (λ p. by-bool (eqb kind answer) (λ q. rw (w, p, q))
+    (λ q.
+    let at = b .report-at-root (omega (arith, eqb-false kind wake w, eqb-false kind pass p, eqb-false kind answer q, b .kind-low, b .kind-high)) in
+    let same : s .receiver ≡ j = at .1 ∙ sym (at .0) in
+    rw (w, p, q, same) (ap (λ (l : List Station). record { config = net .config; stations = l }) (set-set (net .stations) j _ _))))))
+
+pub record Going (first : Net) (draws : List ℕ) (here : Net) (states : States) (kept rows : List ℕ) (z : Sizes) (made : ℕ) : Type 0 where
+  pub running : Running rules first draws here made
+  pub known : Known here kept states
+  pub held : HoldTakers (here .config .k) states (keptAt kept) rows z
+
+module _ {first : Net} {draws : List ℕ} {here : Net} {states : States} {kept rows : List ℕ} {z : Sizes} {made : ℕ}
+    (G : Going first draws here states kept rows z made) where
+  formed : wellFormed here ≡ true
+  formed = G .running .formed
+
+  pub few : here .config .k ≤ 64
+  few = k-most here formed
+
+  pub filled : Filled rules here rows z
+  filled = rows-filled here (keptAt kept) few (G .known .sends-are .word) (G .known .states-are) (G .held)
+
+  small : (kind s : ℕ) → 1 ≤ kind → kind ≤ 4 → s < here .config .k → rowAt rows kind s < 2 ^ 64
+  small kind s h l m = rw (filled .are .row kind s h l m) (lt-of-lt-of-le (set-lt (here .config .k) _) (pow-mono few))
+
+  module _ (h : made < length draws) {p : Drawn} (e : p ≡ pickedBySize rows z (here .config .k) (getD draws made 0)) {s : Step} (q : p ≡ drawn.Step s) where
+    may : allowed rules here s ≡ true
+    may = drawn-allowed rules here filled _ e q
+
+    bounds : Bounds rules here s
+    bounds = range-bounds rules here s (allowed-parts rules here s may .0)
+
+    pub both-low : (s .sender < here .config .k) × (s .receiver < here .config .k)
+    both-low = (bounds .sender-low, bounds .receiver-low)
+
+    pub sender-low : s .sender < 64
+    sender-low = omega (arith, few, bounds .sender-low)
+
+    pub receiver-low : s .receiver < 64
+    receiver-low = omega (arith, few, bounds .receiver-low)
+
+    pub joins : joinable (here .config) (station here (s .receiver) .held) (station here (s .sender) .held) ≡ true
+    joins = sums-joinable here formed s (allowed-parts rules here s may .0)
+
+    module _ {two : Two} (u : two ≡ metBy (here .config) (s .kind) (s .sender) (s .receiver) (station here (s .sender)) (station here (s .receiver))) where
+      abbrev next : Net
+      next = withTwo here (s .sender) (two .sender) (s .receiver) (two .receiver)
+
+      after : next ≡ rules .apply here s
+      after = made-is here s may u
+
+      decides : wellFormed next ≡ bounded (here .config) (two .receiver .held)
+      decides =
+          next-formed here s formed may after
+          ∙ ap (λ (x : Station). bounded (here .config) (x .held))
+          (two-receiver here (s .sender) (s .receiver) (two .sender) (two .receiver) (omega (arith, G .known .full, receiver-low)))
+
+      pub ends-outside : bounded (here .config) (two .receiver .held) ≡ false
+          → runOn rules first draws ≡ record { number = numberOf OutOfForm; steps = made + 1; rest = false; net = next }
+      ends-outside b = unformed-with rules (G .running) filled h e q after (decides ∙ b)
+
+      module _ {kept₁ kept₂ : List ℕ} {states₁ states₂ : States} (x : Renewed (here .config) (s .sender) (two .sender) kept states kept₁ states₁)
+          (y : Renewed (here .config) (s .receiver) (two .receiver) kept₁ states₁ kept₂ states₂) where
+        pub agree : Agree s states states₂
+        agree = states-agree s sender-low receiver-low (here .config) (two .sender) (two .receiver) kept states x y
+
+        pub others-hold : HoldSome (others s) (here .config .k) states (keptAt kept₂) rows z
+        others-hold =
+            let same = kept-others s sender-low receiver-low (here .config) (two .sender) (two .receiver) kept states x y (G .known .sends-are .sized) in
+            record {
+              hold = record {
+                sized = G .held .sized;
+                small = small;
+                row = λ kind i g l m o. G .held .row kind i g l m
+                    ∙ ap (λ (w : Sends). takersIn kind w states) (sym (same i (omega (arith, m, few)) o));
+                sizes = G .held .sizes;
+              };
+            }
+
+        pub goes-further : bounded (here .config) (two .receiver .held) ≡ true → {rows₂ : List ℕ} {z₂ : Sizes}
+            → HoldTakers (here .config .k) states₂ (keptAt kept₂) rows₂ z₂ → Going first draws next states₂ kept₂ rows₂ z₂ (made + 1)
+        goes-further b H =
+            let one = known-one here few (G .known .full) (s .sender) (bounds .sender-low) (two .sender) (G .known) x in
+            record {
+              running = goes-on-with rules (G .running) filled h e q after (decides ∙ b);
+              known = known-one (withOne here (s .sender) (two .sender)) few (one .full) (s .receiver) (bounds .receiver-low) (two .receiver) one y;
+              held = H;
+            }

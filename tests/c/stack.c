@@ -1,0 +1,155 @@
+/* How much stack each call takes: it is made on a stack of its own, painted before, and what is no longer painted was used. Prints a line
+   for each call, its name and the bytes, the more of an accepted call on 64 stations all linked and of a refused one. */
+#define _XOPEN_SOURCE 700
+#include "check.h"
+#include "tally.h"
+#include <string.h>
+#include <ucontext.h>
+
+enum { SIZE = 1 << 22, PAINT = 0xa5, MOST_DRAWS = 4034 };
+
+static _Alignas(64) uint8_t stack[SIZE];
+static ucontext_t caller, callee;
+
+/* The bytes of stack that something takes. */
+static size_t used(void (*act)(void))
+{
+    memset(stack, PAINT, SIZE);
+    CHECK(getcontext(&callee) == 0);
+    callee.uc_stack.ss_sp = stack;
+    callee.uc_stack.ss_size = SIZE;
+    callee.uc_link = &caller;
+    makecontext(&callee, act, 0);
+    CHECK(swapcontext(&caller, &callee) == 0);
+    size_t painted = 0;
+    while (painted < SIZE && stack[painted] == PAINT)
+        painted++;
+    CHECK(painted > 0);
+    return SIZE - painted;
+}
+
+/* What the calls are lent. */
+static struct tally_map map;
+static struct tally_rendezvous net;
+static struct tally_line line;
+static struct tally_mail mail;
+static struct tally_process process;
+static uint8_t bytes[12 * TALLY_STATIONS + 16];
+static uint16_t draws[MOST_DRAWS];
+static volatile uint64_t answer;
+
+static void take_start(void) { answer = tally_process_take_start(&process, 1); }
+static void send_start(void) { answer = tally_process_send_start(&process, 2); }
+static void take_answer(void) { answer = tally_process_take_answer(&process, (struct tally_aggregate){1}); }
+static void send_answer(void) { answer = tally_process_send_answer(&process); }
+static void report(void) { answer = tally_process_report(&process); }
+static void map_read(void) { answer = tally_map_read(&map, bytes, sizeof bytes); }
+static void map_write(void) { answer = tally_map_write(map, bytes, sizeof bytes); }
+static void map_accept(void) { answer = tally_map_accept(map); }
+static void map_links(void) { answer = tally_map_links(map); }
+static void meet_fresh(void) { answer = tally_rendezvous_fresh(&net, map); }
+static void meet_step(void) { answer = tally_rendezvous_step(&net, TALLY_WAKE, 0, 1); }
+static void meet_draw(void) { answer = tally_rendezvous_draw(&net, 9640); }
+static void meet_run(void) { answer = tally_rendezvous_run(&net, draws, MOST_DRAWS).answer; }
+static void mail_fresh(void) { answer = tally_mailbox_fresh(&line, &mail, map); }
+static void mail_step(void) { answer = tally_mailbox_step(&line, &mail, TALLY_DELIVERY, 0, 1); }
+static void mail_draw(void) { answer = tally_mailbox_draw(&line, &mail, 9640); }
+static void mail_run(void) { answer = tally_mailbox_run(&line, &mail, draws, MOST_DRAWS).answer; }
+
+/* The measure sees a deep frame. */
+static void deep(void)
+{
+    volatile uint8_t frame[1 << 16];
+    for (size_t i = 0; i < sizeof frame; i++)
+        frame[i] = 1;
+    answer = frame[0];
+}
+
+/* A call where it is accepted, and again where it is refused, since what it is lent was spoiled. */
+static void measure(const char *name, void (*call)(void), void (*spoil)(void))
+{
+    size_t accepted = used(call);
+    CHECK(TALLY_NUMBER(answer) == 0);
+    spoil();
+    size_t refused = used(call);
+    CHECK(TALLY_NUMBER(answer) != 0);
+    printf("%s %zu\n", name, accepted > refused ? accepted : refused);
+}
+
+static void all_linked(void)
+{
+    map = (struct tally_map){.k = TALLY_STATIONS, .lot = 42};
+    for (unsigned i = 0; i < TALLY_STATIONS; i++) {
+        map.counts[i] = UINT32_MAX;
+        map.neighbours[i] = ~((uint64_t)1 << i);
+    }
+}
+
+static void spoil_map(void) { map.neighbours[TALLY_STATIONS - 1] = 0; }
+static void spoil_bytes(void) { bytes[0]++; }
+static void spoil_process(void) { process.station.state = TALLY_FINISHED + 1; }
+static void spoil_net(void) { net.stations[TALLY_STATIONS - 1].waits = TALLY_STATIONS + 1; }
+static void spoil_line(void) { line.stations[TALLY_STATIONS - 1].waits = TALLY_STATIONS + 1; }
+
+static void stations(void)
+{
+    const struct tally_process asleep = {5, {{1}, 6, 0, 2, TALLY_ASLEEP}}, ready = {5, {{1}, 0, 1, 0, TALLY_ACTIVE}};
+    process = asleep;
+    measure("tally_process_take_start", take_start, spoil_process);
+    process = asleep;
+    process.station.state = TALLY_ACTIVE;
+    measure("tally_process_send_start", send_start, spoil_process);
+    process = ready;
+    measure("tally_process_take_answer", take_answer, spoil_process);
+    process = ready;
+    measure("tally_process_send_answer", send_answer, spoil_process);
+    process = ready;
+    process.own = 0;
+    measure("tally_process_report", report, spoil_process);
+}
+
+static void maps(void)
+{
+    all_linked();
+    measure("tally_map_write", map_write, spoil_map);
+    measure("tally_map_read", map_read, spoil_bytes);
+    all_linked();
+    measure("tally_map_accept", map_accept, spoil_map);
+    all_linked();
+    measure("tally_map_links", map_links, spoil_map);
+}
+
+static void fresh_nets(void)
+{
+    all_linked();
+    meet_fresh();
+    mail_fresh();
+}
+
+static void nets(void)
+{
+    for (unsigned i = 0; i < MOST_DRAWS; i++)
+        draws[i] = (uint16_t)(40503 * i);
+    all_linked();
+    measure("tally_rendezvous_fresh", meet_fresh, spoil_map);
+    all_linked();
+    measure("tally_mailbox_fresh", mail_fresh, spoil_map);
+    fresh_nets();
+    measure("tally_rendezvous_step", meet_step, spoil_net);
+    measure("tally_mailbox_step", mail_step, spoil_line);
+    fresh_nets();
+    measure("tally_rendezvous_draw", meet_draw, spoil_net);
+    measure("tally_mailbox_draw", mail_draw, spoil_line);
+    fresh_nets();
+    measure("tally_rendezvous_run", meet_run, spoil_net);
+    measure("tally_mailbox_run", mail_run, spoil_line);
+}
+
+int main(void)
+{
+    CHECK(used(deep) >= 1 << 16);
+    stations();
+    maps();
+    nets();
+    return 0;
+}
