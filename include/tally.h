@@ -1,24 +1,33 @@
-/* The lot tally for C: the functions of libcapi.a, which `rt staticlib capi` writes (x86-64 Linux, System V calling convention). Link it
-   after the sources, -lcapi. It keeps nothing, writes nothing but what a call is lent without const, and of other code needs only memcpy,
-   memmove, memset and memcmp.
+/* The lot tally for C and C++: the functions of libcapi.a, which `rt staticlib capi` writes (x86-64 Linux, System V calling convention).
+   Link it after the sources, -lcapi. It keeps nothing, writes nothing but what a call is lent without const, and of other code needs only
+   memcpy, memmove, memset and memcmp.
 
    Every call is total: any bytes, numbers or records may be handed over. Its answer has document 01's number in the low byte, 0 where
    nothing is refused, and above it the value or values that come with that number:
        answer = number + 256 * value
    A refusal leaves all that was lent as it was, but for a run that stops with 11: it leaves the net reached. Pointers are never null, and
    point to that many elements, or to one record. What a call writes overlaps nothing else that it is lent. What stands between the fields
-   of a record says nothing, and need not come back.
-
-   Every call takes less than 64 KB of stack. */
+   of a record says nothing, and need not come back. */
 #ifndef TALLY_H
 #define TALLY_H
 #include <stddef.h>
 #include <stdint.h>
 
+#ifdef __cplusplus
+extern "C" {
+#define TALLY_ASSERT(claim) static_assert(claim, #claim)
+#else
+#define TALLY_ASSERT(claim) _Static_assert(claim, #claim)
+#endif
+
 #define TALLY_NUMBER(answer) ((uint8_t)(answer))
 #define TALLY_VALUE(answer) ((answer) >> 8)
 
 enum { TALLY_STATIONS = 64 };
+
+/* Bytes of stack that no call takes more than, its arguments included: events of a station, calls on maps, on stations that meet, and on
+   stations with mail. */
+enum { TALLY_PROCESS_STACK = 1024, TALLY_MAP_STACK = 4096, TALLY_RENDEZVOUS_STACK = 8192, TALLY_MAILBOX_STACK = 12288 };
 
 /* ---- one station --------------------------------------------------------------------------------------------------------------------
 
@@ -45,14 +54,14 @@ struct tally_process {
     struct tally_station station;
 };
 
-_Static_assert(sizeof(struct tally_aggregate) == 8, "tally_aggregate");
-_Static_assert(sizeof(struct tally_station) == 24, "tally_station");
-_Static_assert(offsetof(struct tally_station, unstarted) == 8, "unstarted");
-_Static_assert(offsetof(struct tally_station, parent) == 16, "parent");
-_Static_assert(offsetof(struct tally_station, waits) == 17, "waits");
-_Static_assert(offsetof(struct tally_station, state) == 18, "state");
-_Static_assert(sizeof(struct tally_process) == 32, "tally_process");
-_Static_assert(offsetof(struct tally_process, station) == 8, "station");
+TALLY_ASSERT(sizeof(struct tally_aggregate) == 8);
+TALLY_ASSERT(sizeof(struct tally_station) == 24);
+TALLY_ASSERT(offsetof(struct tally_station, unstarted) == 8);
+TALLY_ASSERT(offsetof(struct tally_station, parent) == 16);
+TALLY_ASSERT(offsetof(struct tally_station, waits) == 17);
+TALLY_ASSERT(offsetof(struct tally_station, state) == 18);
+TALLY_ASSERT(sizeof(struct tally_process) == 32);
+TALLY_ASSERT(offsetof(struct tally_process, station) == 8);
 
 /* The events: 0, or 11 (station out of form), 12 (station number or sum out of range), 13 (not allowed), which leave the record. An
    accepted event leaves the station after it. */
@@ -75,10 +84,10 @@ struct tally_map {
     uint64_t neighbours[TALLY_STATIONS];
 };
 
-_Static_assert(sizeof(struct tally_map) == 776, "tally_map");
-_Static_assert(offsetof(struct tally_map, lot) == 4, "lot");
-_Static_assert(offsetof(struct tally_map, counts) == 8, "counts");
-_Static_assert(offsetof(struct tally_map, neighbours) == 264, "neighbours");
+TALLY_ASSERT(sizeof(struct tally_map) == 776);
+TALLY_ASSERT(offsetof(struct tally_map, lot) == 4);
+TALLY_ASSERT(offsetof(struct tally_map, counts) == 8);
+TALLY_ASSERT(offsetof(struct tally_map, neighbours) == 264);
 
 /* Reads the last map in the bytes: 0, or 1 to 10, which leave *map; 7 to 10 come with the station. */
 uint64_t tally_map_read(struct tally_map *map, const uint8_t *bytes, size_t length);
@@ -105,17 +114,18 @@ struct tally_rendezvous {
     struct tally_station stations[TALLY_STATIONS];
 };
 
-/* What a run answers: 0 or 11 in the low byte of `answer`, with 1 as the value where the net reached is at rest; and the steps made. */
+/* What a run answers, and the steps made. Number 0 comes with the value 1 where the net reached is at rest, and else 0; number 11 always
+   with 0, as a run that stops with it is not called at rest. */
 struct tally_run {
     uint64_t answer;
     uint64_t steps;
 };
 
-_Static_assert(sizeof(struct tally_config) == 1, "tally_config");
-_Static_assert(sizeof(struct tally_rendezvous) == 1544, "tally_rendezvous");
-_Static_assert(offsetof(struct tally_rendezvous, stations) == 8, "stations");
-_Static_assert(sizeof(struct tally_run) == 16, "tally_run");
-_Static_assert(offsetof(struct tally_run, steps) == 8, "steps");
+TALLY_ASSERT(sizeof(struct tally_config) == 1);
+TALLY_ASSERT(sizeof(struct tally_rendezvous) == 1544);
+TALLY_ASSERT(offsetof(struct tally_rendezvous, stations) == 8);
+TALLY_ASSERT(sizeof(struct tally_run) == 16);
+TALLY_ASSERT(offsetof(struct tally_run, steps) == 8);
 
 /* The kinds of step. A report is from 0 to 0. */
 enum { TALLY_WAKE = 1, TALLY_PASS, TALLY_ANSWER, TALLY_REPORT };
@@ -162,11 +172,11 @@ struct tally_mail {
 #define TALLY_START_WAITS(mail, s, r) ((mail)->starts[s] >> (r) & 1)
 #define TALLY_ANSWER_WAITS(mail, s, r) (((mail)->answers[s] & ~(mail)->starts[s]) >> (r) & 1)
 
-_Static_assert(sizeof(struct tally_line) == 1544, "tally_line");
-_Static_assert(offsetof(struct tally_line, stations) == 8, "stations");
-_Static_assert(sizeof(struct tally_mail) == 33792, "tally_mail");
-_Static_assert(offsetof(struct tally_mail, answers) == 512, "answers");
-_Static_assert(offsetof(struct tally_mail, sums) == 1024, "sums");
+TALLY_ASSERT(sizeof(struct tally_line) == 1544);
+TALLY_ASSERT(offsetof(struct tally_line, stations) == 8);
+TALLY_ASSERT(sizeof(struct tally_mail) == 33792);
+TALLY_ASSERT(offsetof(struct tally_mail, answers) == 512);
+TALLY_ASSERT(offsetof(struct tally_mail, sums) == 1024);
 
 /* The kinds of step with mail. A report is from 0 to 0. */
 enum { TALLY_DELIVERY = 1, TALLY_MAIL_REPORT };
@@ -181,4 +191,8 @@ uint64_t tally_mailbox_step(struct tally_line *line, struct tally_mail *mail, ui
 uint64_t tally_mailbox_draw(struct tally_line *line, struct tally_mail *mail, uint16_t d);
 struct tally_run tally_mailbox_run(struct tally_line *line, struct tally_mail *mail, const uint16_t *draws, size_t count);
 
+#undef TALLY_ASSERT
+#ifdef __cplusplus
+}
+#endif
 #endif

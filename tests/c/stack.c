@@ -1,5 +1,6 @@
 /* How much stack each call takes: it is made on a stack of its own, painted before, and what is no longer painted was used. Prints a line
-   for each call, its name and the bytes, the more of an accepted call on 64 stations all linked and of a refused one. */
+   for each call: its name, the bytes, the more of an accepted call on 64 stations all linked and of a refused one, and what the header says
+   of its group. To be linked with all names bound, or the loader's own stack is measured with the first call of memcpy. */
 #define _XOPEN_SOURCE 700
 #include "check.h"
 #include "tally.h"
@@ -66,14 +67,14 @@ static void deep(void)
 }
 
 /* A call where it is accepted, and again where it is refused, since what it is lent was spoiled. */
-static void measure(const char *name, void (*call)(void), void (*spoil)(void))
+static void measure(const char *name, int most, void (*call)(void), void (*spoil)(void))
 {
     size_t accepted = used(call);
     CHECK(TALLY_NUMBER(answer) == 0);
     spoil();
     size_t refused = used(call);
     CHECK(TALLY_NUMBER(answer) != 0);
-    printf("%s %zu\n", name, accepted > refused ? accepted : refused);
+    printf("%s %zu %d\n", name, accepted > refused ? accepted : refused, most);
 }
 
 static void all_linked(void)
@@ -95,28 +96,28 @@ static void stations(void)
 {
     const struct tally_process asleep = {5, {{1}, 6, 0, 2, TALLY_ASLEEP}}, ready = {5, {{1}, 0, 1, 0, TALLY_ACTIVE}};
     process = asleep;
-    measure("tally_process_take_start", take_start, spoil_process);
+    measure("tally_process_take_start", TALLY_PROCESS_STACK, take_start, spoil_process);
     process = asleep;
     process.station.state = TALLY_ACTIVE;
-    measure("tally_process_send_start", send_start, spoil_process);
+    measure("tally_process_send_start", TALLY_PROCESS_STACK, send_start, spoil_process);
     process = ready;
-    measure("tally_process_take_answer", take_answer, spoil_process);
+    measure("tally_process_take_answer", TALLY_PROCESS_STACK, take_answer, spoil_process);
     process = ready;
-    measure("tally_process_send_answer", send_answer, spoil_process);
+    measure("tally_process_send_answer", TALLY_PROCESS_STACK, send_answer, spoil_process);
     process = ready;
     process.own = 0;
-    measure("tally_process_report", report, spoil_process);
+    measure("tally_process_report", TALLY_PROCESS_STACK, report, spoil_process);
 }
 
 static void maps(void)
 {
     all_linked();
-    measure("tally_map_write", map_write, spoil_map);
-    measure("tally_map_read", map_read, spoil_bytes);
+    measure("tally_map_write", TALLY_MAP_STACK, map_write, spoil_map);
+    measure("tally_map_read", TALLY_MAP_STACK, map_read, spoil_bytes);
     all_linked();
-    measure("tally_map_accept", map_accept, spoil_map);
+    measure("tally_map_accept", TALLY_MAP_STACK, map_accept, spoil_map);
     all_linked();
-    measure("tally_map_links", map_links, spoil_map);
+    measure("tally_map_links", TALLY_MAP_STACK, map_links, spoil_map);
 }
 
 static void fresh_nets(void)
@@ -131,18 +132,18 @@ static void nets(void)
     for (unsigned i = 0; i < MOST_DRAWS; i++)
         draws[i] = (uint16_t)(40503 * i);
     all_linked();
-    measure("tally_rendezvous_fresh", meet_fresh, spoil_map);
+    measure("tally_rendezvous_fresh", TALLY_RENDEZVOUS_STACK, meet_fresh, spoil_map);
     all_linked();
-    measure("tally_mailbox_fresh", mail_fresh, spoil_map);
+    measure("tally_mailbox_fresh", TALLY_MAILBOX_STACK, mail_fresh, spoil_map);
     fresh_nets();
-    measure("tally_rendezvous_step", meet_step, spoil_net);
-    measure("tally_mailbox_step", mail_step, spoil_line);
+    measure("tally_rendezvous_step", TALLY_RENDEZVOUS_STACK, meet_step, spoil_net);
+    measure("tally_mailbox_step", TALLY_MAILBOX_STACK, mail_step, spoil_line);
     fresh_nets();
-    measure("tally_rendezvous_draw", meet_draw, spoil_net);
-    measure("tally_mailbox_draw", mail_draw, spoil_line);
+    measure("tally_rendezvous_draw", TALLY_RENDEZVOUS_STACK, meet_draw, spoil_net);
+    measure("tally_mailbox_draw", TALLY_MAILBOX_STACK, mail_draw, spoil_line);
     fresh_nets();
-    measure("tally_rendezvous_run", meet_run, spoil_net);
-    measure("tally_mailbox_run", mail_run, spoil_line);
+    measure("tally_rendezvous_run", TALLY_RENDEZVOUS_STACK, meet_run, spoil_net);
+    measure("tally_mailbox_run", TALLY_MAILBOX_STACK, mail_run, spoil_line);
 }
 
 int main(void)

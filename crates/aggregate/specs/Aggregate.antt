@@ -1,7 +1,8 @@
 -- What a net is opened with, and what its stations gather and join (document 01). Nothing above this crate looks inside these records.
 use Prim.Native.Nat.{ℕ, _+_, _^_}
 use mathlib.Core.Bool.{Bool, _&&_}
-use lib.Dec.{leb, ltb}
+use lib.Dec.{ltb}
+use Rattle.bitset.specs.Set.{isStationCount}
 use Rattle.aggregate.specs.declared.Config.{Config}
 use Rattle.aggregate.specs.declared.Reading.{Reading}
 use Rattle.aggregate.specs.declared.Aggregate.{Aggregate}
@@ -12,7 +13,7 @@ rootOf t = 0
 
 -- "k 1 to 64" (Causes and numbers, form)
 unfoldable pub valid : Config → Bool
-valid t = leb 1 (t .k) && leb (t .k) 64
+valid t = isStationCount (t .k)
 
 -- the sum, as a number
 abbrev pub sumOf : Aggregate → ℕ
@@ -23,7 +24,7 @@ unfoldable pub bounded : Config → Aggregate → Bool
 bounded t a = ltb (sumOf a) (2 ^ 62)
 
 -- nothing gathered
-unfoldable pub nothing : Aggregate
+abbrev pub nothing : Aggregate
 nothing = record { sum = 0 }
 
 -- "sums are the counts" (Stations that meet, fresh): what one reading gives
@@ -37,7 +38,3 @@ joined t a b = record { sum = sumOf a + sumOf b }
 -- both are bounded, so their join is a number of 64 bits
 abbrev pub joinable : Config → Aggregate → Aggregate → Bool
 joinable t a b = bounded t a && bounded t b
-
--- what stands past the end of a list of these: the language's default, which no rule calls empty
-abbrev pub absent : Aggregate
-absent = record { sum = 0 }

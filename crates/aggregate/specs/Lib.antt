@@ -1,2 +1,2 @@
 pub mod Aggregate
-pub mod Joining
+pub mod internal

@@ -37,7 +37,7 @@ pub fn root(t: Config) -> u8
 pub fn is_valid(t: Config) -> bool
     ensures { λ r. ⌜ r ≡ valid t ⌝ }
 {
-    (1 <= t.k) & (t.k <= 64)
+    bitset::is_station_count(t.k as u64)
 }
 
 // The sum, as a number.

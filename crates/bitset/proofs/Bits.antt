@@ -10,7 +10,7 @@ use lib.Count.{onesIn, ones, ones-step}
 use lib.Pow.{pow-pos, shr-shr, field, mod-mod-pow}
 use borrow.Author.Tests.{eqb-true, eqb-false}
 use Rattle.finite.proofs.Cases.{by-bool}
-use Rattle.bitset.specs.Set.{bit, member, count, without}
+use Rattle.bitset.specs.Set.{bit, member, membersBelow, without}
 
 -- bit 0 is the parity, and the other bits are those of the half
 bit-suc : (j s : ℕ) → bit (suc j) s ≡ bit j (s / 2)
@@ -69,41 +69,41 @@ bit-kept (suc i) (suc j) s ne =
     let half : without (suc j) s / 2 ≡ without j (s / 2) = omega (arith, without-suc j s) in
     bit-suc i (without (suc j) s) ∙ ap (bit i) half ∙ bit-kept i j (s / 2) (λ e. ne (ap suc e)) ∙ sym (bit-suc i s)
 
-pub count-le : (n s : ℕ) → count n s ≤ n
-unfolding count
+pub count-le : (n s : ℕ) → membersBelow n s ≤ n
+unfolding membersBelow
 count-le zero s = omega arith
 count-le (suc n) s = omega (arith, count-le n s)
 
-count-agree : (n s t : ℕ) → ((j : ℕ) → j < n → bit j s ≡ bit j t) → count n s ≡ count n t
-unfolding count
+count-agree : (n s t : ℕ) → ((j : ℕ) → j < n → bit j s ≡ bit j t) → membersBelow n s ≡ membersBelow n t
+unfolding membersBelow
 count-agree zero s t same = refl
 count-agree (suc n) s t same = omega (arith, count-agree n s t (λ j h. same j (omega arith)), same n (omega arith))
 
 -- the members below m + n: those below m, and those of what is left when s is shifted by m
-count-add : (m n s : ℕ) → count (m + n) s ≡ count m s + count n (s / 2 ^ m)
-unfolding count
-count-add m zero s = omega (arith, ap (λ (k : ℕ). count k s) (add-zero m))
+count-add : (m n s : ℕ) → membersBelow (m + n) s ≡ membersBelow m s + membersBelow n (s / 2 ^ m)
+unfolding membersBelow
+count-add m zero s = omega (arith, ap (λ (k : ℕ). membersBelow k s) (add-zero m))
 count-add m (suc n) s = rw add-suc (omega (arith, count-add m n s, ap (λ (x : ℕ). x % 2) (shr-shr s m n)))
 
 -- the bits below i + 1 + j stay under a remainder by 2 ^ (i + 1 + j)
 bit-mod : (i j s : ℕ) → bit j (s % 2 ^ (suc i + j)) ≡ bit j s
 bit-mod i j s = ap (λ (x : ℕ). x % 2) (field s (suc i) j) ∙ (rw add-one at (mod-mod-pow (s / 2 ^ j) i 1))
 
-count-mod : (n s : ℕ) → count n (s % 2 ^ n) ≡ count n s
+count-mod : (n s : ℕ) → membersBelow n (s % 2 ^ n) ≡ membersBelow n s
 count-mod n s =
     count-agree n (s % 2 ^ n) s
     (λ j h. let e : suc (n - suc j) + j ≡ n = omega arith in ap (λ (m : ℕ). bit j (s % 2 ^ m)) (sym e) ∙ bit-mod (n - suc j) j s)
 
 -- one byte more
-pub count-byte : (n s : ℕ) → count (n + 8) s ≡ count n s + count 8 (s / 2 ^ n % 256)
+pub count-byte : (n s : ℕ) → membersBelow (n + 8) s ≡ membersBelow n s + membersBelow 8 (s / 2 ^ n % 256)
 count-byte n s = omega (arith, count-add n 8 s, count-mod 8 (s / 2 ^ n))
 
 -- the members of a set below 2^n, counted from the lowest on, as the processor's count of its bits is defined
-pub ones-count : (n s : ℕ) → s < 2 ^ n → ones s ≡ count n s
-unfolding count ones onesIn
+pub ones-count : (n s : ℕ) → s < 2 ^ n → ones s ≡ membersBelow n s
+unfolding membersBelow ones onesIn
 ones-count zero s h = ap ones (let z : s ≡ 0 = omega arith in z)
 ones-count (suc n) s h =
-    let rest : ones (s / 2) ≡ count n (s / 2) = ones-count n (s / 2) (omega (arith, pow-suc 2 n)) in
-    let first : count (1 + n) s ≡ count 1 s + count n (s / 2) = count-add 1 n s in
-    let all : count (suc n) s ≡ count (1 + n) s = ap (λ (m : ℕ). count m s) (sym (one-add n)) in
+    let rest : ones (s / 2) ≡ membersBelow n (s / 2) = ones-count n (s / 2) (omega (arith, pow-suc 2 n)) in
+    let first : membersBelow (1 + n) s ≡ membersBelow 1 s + membersBelow n (s / 2) = count-add 1 n s in
+    let all : membersBelow (suc n) s ≡ membersBelow (1 + n) s = ap (λ (m : ℕ). membersBelow m s) (sym (one-add n)) in
     omega (arith, ones-step s, rest, first, all)

@@ -8,10 +8,11 @@ use native.Mathlib.Omega.{arith}
 use lib.Dec.{eqb, ltb}
 use lib.Pow.{pow-pos, pow-mono, shr-shr, shr-le}
 use borrow.Author.Tests.{eqb-true, eqb-false, eq-eqb, ne-eqb, lt-ltb, ltb-true, ltb-false}
-use Rattle.finite.specs.Sum.{addition, sumTo, indicator}
-use Rattle.finite.proofs.Cases.{by-bool, by-eq, clash, eqb-self}
-use Rattle.finite.proofs.Sums.{sum-zero, sum-bump, indicator-zero, indicators-le}
-use Rattle.bitset.specs.Set.{bit, member, count, size, without, within}
+use Rattle.finite.specs.Sum.{foldTo, indicator}
+use Rattle.finite.specs.internal.Monoid.{addition, sumTo}
+use Rattle.finite.proofs.Cases.{by-bool, by-eq, clash}
+use Rattle.finite.proofs.Sums.{indicators-le}
+use Rattle.bitset.specs.Set.{bit, member, membersBelow, size, without, within}
 use Rattle.bitset.proofs.Bits.{same-bits, bit-gone, bit-kept}
 
 -- no station from the width on is in a set
@@ -58,8 +59,8 @@ unfolding without
 without-le j s = by-bool (member j s) (λ e. rw e (omega arith)) (λ e. rw e (omega arith))
 
 -- the members below n, counted one by one
-count-sum : (n s : ℕ) → count n s ≡ sumTo addition n (λ j. indicator (member j s))
-unfolding count sumTo indicator member
+count-sum : (n s : ℕ) → membersBelow n s ≡ sumTo addition n (λ j. indicator (member j s))
+unfolding membersBelow foldTo indicator member
 count-sum zero s = refl
 count-sum (suc n) s =
     by-eq (bit n s) 1
@@ -68,7 +69,7 @@ count-sum (suc n) s =
 
 -- terms that are zero from k on add nothing
 sum-trim : (k d : ℕ) (f : ℕ → ℕ) → ((i : ℕ) → k ≤ i → f i ≡ 0) → sumTo addition (k + d) f ≡ sumTo addition k f
-unfolding sumTo
+unfolding foldTo
 sum-trim k zero f h = ap (λ (n : ℕ). sumTo addition n f) (add-zero k)
 sum-trim k (suc d) f h = rw add-suc (omega (arith, sum-trim k d f h, h (k + d) (omega arith)))
 
@@ -84,29 +85,10 @@ size-sum k s l h =
 pub size-le : (k s : ℕ) → k ≤ 64 → s < 2 ^ k → size s ≤ k
 size-le k s l h = rw (size-sum k s l h) (indicators-le k (λ j. member j s))
 
--- a removed member leaves a set of one less
-pub size-without : (j s : ℕ) → s < 2 ^ 64 → member j s ≡ true → size s ≡ suc (size (without j s))
-unfolding indicator
-size-without j s h e =
-    let less : without j s < 2 ^ 64 = omega (arith, without-le j s) in
-    let gone : member j (without j s) ≡ false = member-without j j s ∙ rw (eqb-self j) in
-    let kept : (i : ℕ) → (i ≡ j → ⊥) → member i (without j s) ≡ member i s =
-    λ i ne. member-without i j s ∙ rw (ne-eqb i j ne) in
-    size-sum 64 s (omega arith) h
-    ∙ sum-bump 64 j (λ i. indicator (member i (without j s))) (λ i. indicator (member i s)) (member-below 64 j s h e)
-    (rw (e, gone))
-    (λ i ne. ap indicator (sym (kept i ne)))
-    ∙ ap suc (sym (size-sum 64 (without j s) (omega arith) less))
-
--- the empty set has size 0, and no other set has
+-- the empty set has size 0
 pub size-empty : size 0 ≡ 0
-unfolding size count
+unfolding size membersBelow
 size-empty = refl
-
-pub empty-of-size : (s : ℕ) → s < 2 ^ 64 → size s ≡ 0 → s ≡ 0
-empty-of-size s h e =
-    let none : sumTo addition 64 (λ j. indicator (member j s)) ≡ 0 = sym (size-sum 64 s (omega arith) h) ∙ e in
-    empty-of-members 64 s h (λ j l. indicator-zero (member j s) (sum-zero 64 (λ i. indicator (member i s)) none j l))
 
 -- the definition of `within`, as an order
 pub within-lt : (k s : ℕ) → within k s ≡ true → s < 2 ^ k

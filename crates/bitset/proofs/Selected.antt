@@ -11,7 +11,8 @@ use lib.Pow.{pow-pos, pow-lt, pow-mono, split, high, pow-add, field, mod-mod-pow
 use lib.Bits.{bitAnd, and-step, and-shr}
 use borrow.Author.Tests.{lt-ltb, ltb-true, ltb-false, ne-eqb}
 use Rattle.finite.proofs.Cases.{by-bool, by-eq, eqb-self}
-use Rattle.bitset.specs.Set.{member, bitIf, setOf}
+use Rattle.bitset.specs.Set.{member, bitIf}
+use Rattle.bitset.specs.internal.Selected.{setOf}
 use Rattle.bitset.proofs.Laws.{no-member-from, member-empty, member-shift}
 
 cond-le : (b : Bool) (x : ℕ) → cond b x 0 ≤ x

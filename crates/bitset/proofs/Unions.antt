@@ -9,7 +9,8 @@ use lib.Pow.{pow-mono, shr-shr}
 use lib.Bits.{bitOr, and-step, and-le-l, or-step, or-shr, or-lt}
 use borrow.Author.Tests.{lt-ltb, ne-eqb}
 use Rattle.finite.proofs.Cases.{by-eq, eqb-self}
-use Rattle.bitset.specs.Set.{member, without, bitIf, setOf, union, minus, put}
+use Rattle.bitset.specs.Set.{member, without, bitIf, union, minus, put}
+use Rattle.bitset.specs.internal.Selected.{setOf}
 use Rattle.bitset.proofs.Laws.{member-without, without-le, same-members}
 use Rattle.bitset.proofs.Selected.{set-lt, set-has, bit-has, bit-lt}
 

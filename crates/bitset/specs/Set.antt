@@ -1,8 +1,12 @@
 -- Sets of stations (document 01, "The line map"): "a set of neighbours (64 bits; bit j, worth 2^j, is station j)".
 use Prim.Native.Nat.{ℕ, zero, suc, _+_, _-_, _/_, _%_, _^_}
 use mathlib.Core.Bool.{Bool, _&&_, cond}
-use lib.Dec.{eqb, ltb}
+use lib.Dec.{eqb, leb, ltb}
 use lib.Bits.{bitAnd, bitOr}
+
+-- "There are k stations, 1 to 64"
+abbrev pub isStationCount : ℕ → Bool
+isStationCount k = ltb 0 k && leb k 64
 
 -- bit j of s, 0 or 1
 abbrev pub bit : ℕ → ℕ → ℕ
@@ -13,13 +17,13 @@ unfoldable pub member : ℕ → ℕ → Bool
 member j s = eqb (bit j s) 1
 
 -- how many stations below n are in the set s
-unfoldable pub count : ℕ → ℕ → ℕ
-count zero s = 0
-count (suc n) s = count n s + bit n s
+unfoldable pub membersBelow : ℕ → ℕ → ℕ
+membersBelow zero s = 0
+membersBelow (suc n) s = membersBelow n s + bit n s
 
 -- "The size of a set" (One station): how many stations are in it
 unfoldable pub size : ℕ → ℕ
-size s = count 64 s
+size s = membersBelow 64 s
 
 -- "j leaves the set" (One station): the set s without station j
 unfoldable pub without : ℕ → ℕ → ℕ
@@ -32,11 +36,6 @@ within k s = ltb s (2 ^ k)
 -- what station j is worth in a set of 64 bits, if it passes a test
 unfoldable pub bitIf : Bool → ℕ → ℕ
 bitIf b j = cond (ltb j 64 && b) (2 ^ j) 0
-
--- the set of the stations below n that pass a test
-unfoldable pub setOf : ℕ → (ℕ → Bool) → ℕ
-setOf zero test = 0
-setOf (suc n) test = setOf n test + cond (test n) (2 ^ n) 0
 
 -- the stations of either set
 unfoldable pub union : ℕ → ℕ → ℕ

@@ -4,6 +4,15 @@ ghost use Rattle.bitset.specs.Set;
 
 mod table;
 
+const MOST_STATIONS: u64 = 64;
+
+// Whether a line may have k stations.
+pub fn is_station_count(k: u64) -> bool
+    ensures { λ r. ⌜ r ≡ Set.isStationCount k ⌝ }
+{
+    (0 < k) & (k <= MOST_STATIONS)
+}
+
 // The size of a set: the sum of the table's entries at its eight bytes.
 pub fn size(set: u64) -> u8
     ensures { λ r. ⌜ r ≡ Set.size set ⌝ }

@@ -1,6 +1,6 @@
 // The bit counts of a byte: the 256-entry constant table of document 01, "One station".
 ghost use mathlib.Core.Path.{_≡_};
-ghost use Rattle.bitset.specs.Set.{count};
+ghost use Rattle.bitset.specs.Set.{membersBelow};
 
 // How many bits each byte has.
 const COUNTS: [u8; 256] = [
@@ -264,7 +264,7 @@ const COUNTS: [u8; 256] = [
 
 // The size of a set of stations 0 to 7.
 pub fn byte_size(byte: u8) -> u8
-    ensures { λ r. ⌜ r ≡ count 8 byte ⌝ }
+    ensures { λ r. ⌜ r ≡ membersBelow 8 byte ⌝ }
 {
     COUNTS[byte as usize]
 }

@@ -4,12 +4,14 @@ use mathlib.Core.Path.{_≡_, sym, ap, _∙_}
 use mathlib.Core.Bool.{Bool, false}
 use mathlib.Core.List.{List}
 use Prim.Native.Nat.{ℕ}
-use Rattle.topology.specs.Answer.{accepted, isAccepted, unless}
+use Rattle.topology.specs.Answer.{accepted, isAccepted}
+use Rattle.finite.specs.Tests.{unless}
 use Rattle.schedule.specs.declared.Answer.{Answer}
 use Rattle.schedule.specs.declared.Answer.the-variants.{Made, Refused}
-use Rattle.schedule.specs.Outcome.{outcomeOf}
+use Rattle.schedule.specs.Outcome.{stepOutcomeOf}
 use Rattle.capi.specs.Answers.{packed, called, replacing}
-use Rattle.capi.specs.Steps.{answerNumbers, stepCall}
+use Rattle.capi.specs.Steps.{stepCall}
+use Rattle.capi.specs.internal.Values.{answerNumbers}
 
 -- a call with these numbers, on what it was lent and what it found
 module _ {Lent : Type 0} (numbers : List ℕ) (before after : Lent) where
@@ -22,6 +24,6 @@ module _ {Lent : Type 0} (numbers : List ℕ) (before after : Lent) where
   pub accepted-replaces : (found : Lent) → accepted ≡ numbers → found ≡ after → called 0 found ≡ replacing numbers before after
   accepted-replaces found is same = ap (λ (x : Lent). called 0 x) same ∙ ap (λ (l : List ℕ). replacing l before after) is
 
-pub answer-call : {Net : Type 0} (a : Answer) (n : ℕ) (net : Net) → n ≡ packed (answerNumbers a) → called n net ≡ stepCall (outcomeOf a net)
+pub answer-call : {Net : Type 0} (a : Answer) (n : ℕ) (net : Net) → n ≡ packed (answerNumbers a) → called n net ≡ stepCall (stepOutcomeOf a net)
 answer-call (Made s) n net number = ap (λ (x : ℕ). called x net) number
 answer-call (Refused why) n net number = ap (λ (x : ℕ). called x net) number

@@ -6,18 +6,14 @@ use Rattle.refusal.proofs.Laws.{number-not-zero}
 use Rattle.refusal.specs.declared.Refusal.the-variants.{OutOfForm, NotAllowed}
 use Rattle.station.specs.declared.Process.{Process}
 use Rattle.station.specs.Process.{decide, gives, sendAnswer, report}
-use Rattle.capi.specs.Process.{GivesLeft}
+use Rattle.capi.specs.Process.{StandsLeft, GivesLeft}
 
-decided : (form allowed : Bool) (p : Process) → decide form true allowed p (gives p) .number ≡ 0 → GivesLeft (decide form true allowed p (gives p))
+decided : (form allowed : Bool) (p : Process) → decide form true allowed p (gives p) .number ≡ 0 → StandsLeft (decide form true allowed p (gives p))
 unfolding decide
 decided false allowed p accepted = absurd (number-not-zero OutOfForm accepted)
 decided true false p accepted = absurd (number-not-zero NotAllowed accepted)
 decided true true p accepted = record { parent = refl; sum = refl }
 
-pub answer-gives-left : (p : Process) → sendAnswer p .number ≡ 0 → GivesLeft (sendAnswer p)
-unfolding sendAnswer
-answer-gives-left p accepted = decided _ _ p accepted
-
-pub report-gives-left : (p : Process) → report p .number ≡ 0 → GivesLeft (report p)
-unfolding report
-report-gives-left p accepted = decided _ _ p accepted
+pub gives-left : GivesLeft
+unfolding sendAnswer report
+gives-left = record { answers = λ p accepted. decided _ _ p accepted; reports = λ p accepted. decided _ _ p accepted }

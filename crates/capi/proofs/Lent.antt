@@ -1,5 +1,5 @@
--- The exported functions on a lent record, as the law of a lent record asks for them: the record, the answer, and the struct of both that
--- the function by value returns. Assumes nothing.
+-- The exported functions on a lent record, as the laws of lent records ask for them: an event of a station by the lent function that it is
+-- passed on to; any other by the record, the answer, and the struct of both that the function by value returns. Assumes nothing.
 use mathlib.Core.Path.{_≡_, refl, ap, subst, _∙_}
 use mathlib.Core.List.{List, [], _∷_}
 use Prim.Native.Nat.{ℕ, suc}
@@ -16,7 +16,10 @@ use Rattle.lent.proofs.Data.{Record, the-row, the-val, Answer, number-answer, s
 use Rattle.lent.proofs.Arguments.{values, Seens}
 use Rattle.lent.proofs.Memory.{Beside, alone, words, with-memory}
 use Rattle.lent.proofs.Law.{Lending}
-use Rattle.station.proofs.Lent.{process}
+use Rattle.lent.proofs.Passing.{Passing}
+use Rattle.station.specs.declared.Process.{Process}
+use Rattle.station.specs.Process.{EventOutcome, eventOutcomeOf, numberAndValues}
+use Rattle.station.proofs.Lent.{process, reply}
 use Rattle.linemap.proofs.Map as Map
 use Rattle.linemap.proofs.Map.Laws as Map′
 use Rattle.rendezvous.proofs.Net as Meeting
@@ -25,11 +28,10 @@ use Rattle.mailbox.specs.Net.{Net}
 use Rattle.mailbox.specs.Net.{netOf}
 use Rattle.mailbox.proofs.Line as Line
 use Rattle.mailbox.proofs.Line.Laws as Line′
-use Rattle.capi.specs.Answers.{Called, called}
+use Rattle.capi.specs.Answers.{packed, Called, called}
+use Rattle.capi.specs.Process.{eventCall}
 use Rattle.capi.proofs.steps.Run as Run
 use Rattle.capi.proofs.steps.Run.Laws as Run′
-use Rattle.capi.proofs.process.Answered as OnProcess
-use Rattle.capi.proofs.process.Answered.Laws as OnProcess′
 use Rattle.capi.proofs.map.Answered as OnMap
 use Rattle.capi.proofs.map.Answered.Laws as OnMap′
 use Rattle.capi.proofs.rendezvous_net.Answered as OnNet
@@ -46,6 +48,19 @@ number = number-answer w64
 
 abbrev run : Answer
 run = struct-answer (record { type = Run.the-type; laws = Run′.the-laws; plain = Run′.the-plain })
+
+-- a station's event with these arguments, passed on to the station's own lent function, and its reply put into a number
+abbrev pub on-process : (Ns : List (Argument 0)) → ((κs : Lfts 0) → Denots (typesAt (values Ns) κs) → Process → EventOutcome) → Passing 0
+on-process Ns rule = record {
+  lent = process;
+  arguments = Ns;
+  reply = reply;
+  answer = number;
+  replies = λ κs a e p r q. eventOutcomeOf r q ≡ rule κs a p;
+  answers = λ r n. n ≡ packed (numberAndValues (r .answer) .0 ∷ numberAndValues (r .answer) .1);
+  promise = λ κs a e p n q. called n q ≡ eventCall (rule κs a p);
+  together = λ κs a e p r q n replied answered. ap (λ (x : ℕ). called x q) answered ∙ ap eventCall replied;
+}
 
 -- a function with these arguments that lends S, over one that returns E, whose call comes to `rule`; `left` is what is left in what was lent.
 -- The four facts hold by computation.
@@ -90,12 +105,6 @@ handed-map = struct map
 module _ {m : ℕ} (Ns : List (Argument m)) where
   abbrev Rule : Type 0 → Type 0 → Type 0
   Rule X Y = (κs : Lfts m) → Denots (typesAt (values Ns) κs) → Y → Called X Y
-
-  abbrev pub on-process : Rule ℕ (process .type .D) → Lending m
-  on-process =
-      lending process number OnProcess.the-type OnProcess′.the-laws (λ d. d .answer) (λ d. d .process) refl (λ d. refl)
-      (λ d vs is. LL.owed OnProcess.the-type OnProcess′.the-laws d vs is .0)
-      (λ d vs is. LL.owed OnProcess.the-type OnProcess′.the-laws d vs is .1 .0) alone Ns (λ κs e y. y)
 
   abbrev pub on-map : Rule ℕ (map .type .D) → Lending m
   on-map =

@@ -7,8 +7,10 @@ use native.Mathlib.Omega.{arith}
 use lib.Dec.{leb}
 use borrow.Author.Tests.{leb-false}
 use Rattle.aggregate.specs.Aggregate.{rootOf}
-use Rattle.topology.specs.Answer.{isAccepted, unless}
-use Rattle.topology.specs.Acceptance.{faultNumbers, isStationCount, lowest, overAll, verdictOf}
+use Rattle.topology.specs.Answer.{isAccepted}
+use Rattle.finite.specs.Tests.{unless}
+use Rattle.topology.specs.Acceptance.{faultNumbers, lowest, overAll, verdictOf}
+use Rattle.bitset.specs.Set.{isStationCount}
 use Rattle.topology.specs.declared.Fault.{Fault}
 use Rattle.topology.specs.declared.Fault.the-variants.{Stations, Beyond, Itself, OneWay, Apart}
 use Rattle.linemap.specs.declared.Map.{Map}
@@ -17,7 +19,7 @@ use Rattle.linemap.specs.Maps.{configOf, acceptance}
 use Rattle.linemap.specs.Stored.{storedLength}
 use Rattle.linemap.proofs.Accepted.{map-web}
 use Rattle.linemap.proofs.Rules.{few-stations}
-use Rattle.capi.specs.Map.{valueOf}
+use Rattle.capi.specs.internal.Values.{valueOf}
 
 unless-small : (n : ℕ) (b : Bool) (x y : List ℕ) → (b ≡ false → valueOf x ≤ n) → (b ≡ true → valueOf y ≤ n) → valueOf (unless b x y) ≤ n
 unless-small n true x y refused rest = rest refl

@@ -1,7 +1,8 @@
 -- What a call from C comes to: its answer, and what it leaves in the record or the bytes that it was lent.
 use mathlib.Core.List.{List, [], _∷_}
 use Prim.Native.Nat.{ℕ, _+_, _*_}
-use Rattle.topology.specs.Answer.{isAccepted, unless}
+use Rattle.topology.specs.Answer.{isAccepted}
+use Rattle.finite.specs.Tests.{unless}
 
 -- document 01's number and its values ("Causes and numbers") as one number: its digits in base 256, the first lowest; only the last may be
 -- 256 or more

@@ -1,7 +1,7 @@
 -- Line maps from C: a reading into a lent map, and a writing into lent bytes (document 01, "The line map").
 use mathlib.Core.List.{List}
 use Prim.Native.Nat.{ℕ}
-use lib.ListN.{length, getD}
+use lib.ListN.{length}
 use Rattle.linemap.specs.declared.Map.{Map}
 use Rattle.linemap.specs.Reading.{reading}
 use Rattle.linemap.specs.Writing.{writing, written}
@@ -14,7 +14,3 @@ readCall s before = replacing (reading s .numbers) before (reading s .map)
 -- "a map handed over goes 3, 7 to 10, and to be written then 15" (Causes and numbers)
 abbrev pub writeCall : Map → List ℕ → Called ℕ (List ℕ)
 writeCall m s = called (packed (writing m (length s))) (written m s)
-
--- the value that stands after a number (a helper of the writer's answers: no public contract cites it)
-abbrev pub valueOf : List ℕ → ℕ
-valueOf numbers = getD numbers 1 0

@@ -4,8 +4,7 @@ use mathlib.Core.List.{List, [], _∷_}
 use Prim.Native.Nat.{ℕ}
 use Rattle.linemap.specs.Openings.{Opening}
 use Rattle.schedule.specs.declared.Step.{Step}
-use Rattle.schedule.specs.declared.Answer.{Answer}
-use Rattle.schedule.specs.Outcome.{Outcome, outcomeOf, RunOutcome}
+use Rattle.schedule.specs.Outcome.{StepOutcome, RunOutcome}
 use Rattle.capi.specs.declared.steps.Run.{Run}
 use Rattle.capi.specs.Answers.{packed, Called, called, replacing}
 
@@ -13,22 +12,14 @@ use Rattle.capi.specs.Answers.{packed, Called, called, replacing}
 abbrev pub freshCall : {Net : Type 0} → Opening Net → Net → Called ℕ Net
 freshCall opened before = replacing (opened .numbers) before (opened .net)
 
--- "A step has a kind, a sender and a receiver"
-abbrev pub stepAt : ℕ → ℕ → ℕ → Step
-stepAt kind sender receiver = record { kind = kind; sender = sender; receiver = receiver }
-
 -- the values that an accepted step or draw comes with: the step made
 abbrev pub stepValues : List Step → List ℕ
 stepValues [] = []
 stepValues (s ∷ l) = s .kind ∷ s .sender ∷ s .receiver ∷ []
 
 -- a step or a draw: its number and the step made, packed, and the net that it leaves
-abbrev pub stepCall : {Net : Type 0} → Outcome Net → Called ℕ Net
+abbrev pub stepCall : {Net : Type 0} → StepOutcome Net → Called ℕ Net
 stepCall o = called (packed (o .number ∷ stepValues (o .made))) (o .net)
-
--- the number and the values of an answer, whatever the net
-abbrev pub answerNumbers : Answer → List ℕ
-answerNumbers a = outcomeOf {Net = Unit {0}} a tt .number ∷ stepValues (outcomeOf {Net = Unit {0}} a tt .made)
 
 -- "it gives the net, the number of steps made and whether it is at rest"
 abbrev pub runOf : ℕ → ℕ → Bool → Run

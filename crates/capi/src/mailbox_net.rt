@@ -8,13 +8,14 @@ use topology::Verdict;
 ghost use mathlib.Core.Path.{_≡_};
 ghost use mathlib.Core.List.{List};
 ghost use Prim.Native.Nat.{ℕ};
-ghost use Rattle.schedule.specs.Outcome.{outcomeOf};
+ghost use Rattle.schedule.specs.Listing;
+ghost use Rattle.schedule.specs.Outcome.{stepOutcomeOf};
 ghost use Rattle.schedule.specs.Draws.{stepOn, drawOn, runOn};
 ghost use Rattle.mailbox.specs.Net.{netOf};
 ghost use Rattle.mailbox.specs.Rules.{rules};
-ghost use Rattle.mailbox.specs.Opening.{opening};
+ghost use Rattle.mailbox.specs.Opening.{mailboxOpening};
 ghost use Rattle.capi.specs.Answers.{called};
-ghost use Rattle.capi.specs.Steps.{freshCall, stepAt, stepCall, runCall};
+ghost use Rattle.capi.specs.Steps.{freshCall, stepCall, runCall};
 
 // What a call answers, as one number, and the stations after it.
 pub struct Answered {
@@ -29,7 +30,7 @@ pub struct RunAnswered {
 }
 
 fn from_stepped(stepped: Stepped) -> Answered
-    ensures { λ r. ⌜ ((boxes : List ℕ) → called (r .answer) (netOf (r .line) boxes) ≡ stepCall (outcomeOf (stepped .answer) (netOf (stepped .line) boxes))) ⌝ }
+    ensures { λ r. ⌜ ((boxes : List ℕ) → called (r .answer) (netOf (r .line) boxes) ≡ stepCall (stepOutcomeOf (stepped .answer) (netOf (stepped .line) boxes))) ⌝ }
 {
     let answer = stepped.answer;
     let after = stepped.line;
@@ -40,7 +41,7 @@ fn from_stepped(stepped: Stepped) -> Answered
 }
 
 fn fresh(before: Line, boxes: &mut [u64; 4224], map: Map) -> Answered
-    ensures { λ r. ⌜ called (r .answer) (netOf (r .line) (now (boxes .exit))) ≡ freshCall (opening map (now (boxes .entry))) (netOf before (now (boxes .entry))) ⌝ }
+    ensures { λ r. ⌜ called (r .answer) (netOf (r .line) (now (boxes .exit))) ≡ freshCall (mailboxOpening map (now (boxes .entry))) (netOf before (now (boxes .entry))) ⌝ }
 {
     let opened = mailbox::fresh(map, boxes);
     let verdict = opened.verdict;
@@ -58,7 +59,7 @@ fn fresh(before: Line, boxes: &mut [u64; 4224], map: Map) -> Answered
 }
 
 fn step(line: Line, boxes: &mut [u64; 4224], kind: u8, sender: u8, receiver: u8) -> Answered
-    ensures { λ r. ⌜ called (r .answer) (netOf (r .line) (now (boxes .exit))) ≡ stepCall (stepOn rules (netOf line (now (boxes .entry))) (stepAt kind sender receiver)) ⌝ }
+    ensures { λ r. ⌜ called (r .answer) (netOf (r .line) (now (boxes .exit))) ≡ stepCall (stepOn rules (netOf line (now (boxes .entry))) (Listing.step kind sender receiver)) ⌝ }
 {
     let step = Step {
         kind: kind,
@@ -91,7 +92,7 @@ fn run(line: Line, boxes: &mut [u64; 4224], draws: &[u16]) -> RunAnswered
 // The fresh net of an accepted map.
 #[no_mangle]
 pub extern "C" fn tally_mailbox_fresh(line: &mut Line, boxes: &mut [u64; 4224], map: Map) -> u64
-    ensures { λ r. ⌜ called r (netOf (now (line .exit)) (now (boxes .exit))) ≡ freshCall (opening map (now (boxes .entry))) (netOf (now (line .entry)) (now (boxes .entry))) ⌝ }
+    ensures { λ r. ⌜ called r (netOf (now (line .exit)) (now (boxes .exit))) ≡ freshCall (mailboxOpening map (now (boxes .entry))) (netOf (now (line .entry)) (now (boxes .entry))) ⌝ }
 {
     let before = *line;
     let after = fresh(before, boxes, map);
@@ -108,7 +109,7 @@ pub extern "C" fn tally_mailbox_step(
     sender: u8,
     receiver: u8,
 ) -> u64
-    ensures { λ r. ⌜ called r (netOf (now (line .exit)) (now (boxes .exit))) ≡ stepCall (stepOn rules (netOf (now (line .entry)) (now (boxes .entry))) (stepAt kind sender receiver)) ⌝ }
+    ensures { λ r. ⌜ called r (netOf (now (line .exit)) (now (boxes .exit))) ≡ stepCall (stepOn rules (netOf (now (line .entry)) (now (boxes .entry))) (Listing.step kind sender receiver)) ⌝ }
 {
     let before = *line;
     let after = step(before, boxes, kind, sender, receiver);

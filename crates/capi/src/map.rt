@@ -15,7 +15,8 @@ ghost use Rattle.linemap.specs.Maps.{acceptance, linksIn};
 ghost use Rattle.linemap.specs.Reading.{readFaultNumbers};
 ghost use Rattle.linemap.specs.Writing.{writeFaultNumbers, writeNumbers};
 ghost use Rattle.capi.specs.Answers.{packed, called};
-ghost use Rattle.capi.specs.Map.{readCall, valueOf, writeCall};
+ghost use Rattle.capi.specs.Map.{readCall, writeCall};
+ghost use Rattle.capi.specs.internal.Values.{valueOf};
 
 // What a call on a lent map answers, as one number, and the map after it.
 pub struct Answered {

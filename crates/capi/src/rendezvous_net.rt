@@ -6,12 +6,13 @@ use rendezvous::Stepped;
 use schedule::Step;
 use topology::Verdict;
 ghost use mathlib.Core.Path.{_≡_};
-ghost use Rattle.schedule.specs.Outcome.{outcomeOf};
+ghost use Rattle.schedule.specs.Listing;
+ghost use Rattle.schedule.specs.Outcome.{stepOutcomeOf};
 ghost use Rattle.schedule.specs.Draws.{stepOn, drawOn, runOn};
 ghost use Rattle.rendezvous.specs.Rules.{rules};
-ghost use Rattle.rendezvous.specs.Opening.{opening};
+ghost use Rattle.rendezvous.specs.Opening.{rendezvousOpening};
 ghost use Rattle.capi.specs.Answers.{called};
-ghost use Rattle.capi.specs.Steps.{freshCall, stepAt, stepCall, runCall};
+ghost use Rattle.capi.specs.Steps.{freshCall, stepCall, runCall};
 
 // What a call answers, as one number, and the net after it.
 pub struct Answered {
@@ -26,7 +27,7 @@ pub struct RunAnswered {
 }
 
 fn from_stepped(stepped: Stepped) -> Answered
-    ensures { λ r. ⌜ called (r .answer) (r .net) ≡ stepCall (outcomeOf (stepped .answer) (stepped .net)) ⌝ }
+    ensures { λ r. ⌜ called (r .answer) (r .net) ≡ stepCall (stepOutcomeOf (stepped .answer) (stepped .net)) ⌝ }
 {
     let answer = stepped.answer;
     let after = stepped.net;
@@ -37,7 +38,7 @@ fn from_stepped(stepped: Stepped) -> Answered
 }
 
 fn fresh(before: Net, map: Map) -> Answered
-    ensures { λ r. ⌜ called (r .answer) (r .net) ≡ freshCall (opening map) before ⌝ }
+    ensures { λ r. ⌜ called (r .answer) (r .net) ≡ freshCall (rendezvousOpening map) before ⌝ }
 {
     let opened = rendezvous::fresh(map);
     let verdict = opened.verdict;
@@ -55,7 +56,7 @@ fn fresh(before: Net, map: Map) -> Answered
 }
 
 fn step(net: Net, kind: u8, sender: u8, receiver: u8) -> Answered
-    ensures { λ r. ⌜ called (r .answer) (r .net) ≡ stepCall (stepOn rules net (stepAt kind sender receiver)) ⌝ }
+    ensures { λ r. ⌜ called (r .answer) (r .net) ≡ stepCall (stepOn rules net (Listing.step kind sender receiver)) ⌝ }
 {
     let step = Step {
         kind: kind,
@@ -88,7 +89,7 @@ fn run(net: Net, draws: &[u16]) -> RunAnswered
 // The fresh net of an accepted map.
 #[no_mangle]
 pub extern "C" fn tally_rendezvous_fresh(net: &mut Net, map: Map) -> u64
-    ensures { λ r. ⌜ called r (now (net .exit)) ≡ freshCall (opening map) (now (net .entry)) ⌝ }
+    ensures { λ r. ⌜ called r (now (net .exit)) ≡ freshCall (rendezvousOpening map) (now (net .entry)) ⌝ }
 {
     let before = *net;
     let after = fresh(before, map);
@@ -99,7 +100,7 @@ pub extern "C" fn tally_rendezvous_fresh(net: &mut Net, map: Map) -> u64
 // One step.
 #[no_mangle]
 pub extern "C" fn tally_rendezvous_step(net: &mut Net, kind: u8, sender: u8, receiver: u8) -> u64
-    ensures { λ r. ⌜ called r (now (net .exit)) ≡ stepCall (stepOn rules (now (net .entry)) (stepAt kind sender receiver)) ⌝ }
+    ensures { λ r. ⌜ called r (now (net .exit)) ≡ stepCall (stepOn rules (now (net .entry)) (Listing.step kind sender receiver)) ⌝ }
 {
     let before = *net;
     let after = step(before, kind, sender, receiver);

@@ -5,7 +5,8 @@ ghost use mathlib.Core.Path.{_≡_};
 ghost use mathlib.Core.Bool.{cond};
 ghost use Rattle.schedule.specs.Outcome.{runNumberOf};
 ghost use Rattle.capi.specs.Answers.{packed};
-ghost use Rattle.capi.specs.Steps.{answerNumbers, runOf};
+ghost use Rattle.capi.specs.Steps.{runOf};
+ghost use Rattle.capi.specs.internal.Values.{answerNumbers};
 
 // What a run answers: its number, with 1 where the net reached is quiescent (01: at rest), and the steps made.
 #[repr(C)]

@@ -1,6 +1,7 @@
 -- The thirteen examples of document 01's "Edges" that are marked *, typed from there, with what it says of each. `table-holds` (proofs/Holds)
 -- is the theorem that the rules give each row.
-use mathlib.Core.List.{List, [], _∷_, _++_, flatMap}
+use mathlib.Core.Path.{_≡_}
+use mathlib.Core.List.{List, [], _∷_, _++_, map, flatMap}
 use Prim.Native.Nat.{ℕ}
 use Prim.Native.String.{String}
 use lib.ListN.{length, replicate}
@@ -96,3 +97,7 @@ table =
     -- "A draw after its report: 14"
     ∷ row (drawAfter triangle (zeros 7) 0) (14 ∷ [])
     ∷ []
+
+-- the rules give each of them
+abbrev pub TableHolds : Type 0
+TableHolds = map (λ (r : Row). outcome (r .given)) table ≡ map (λ (r : Row). r .expected) table

@@ -8,7 +8,7 @@ use native.Mathlib.Numerals.{add-one}
 use native.Mathlib.Omega.{arith}
 use lib.ListN.{length, getD, take, set, length-append, List·getD-append}
 use lib.Seq.{getD-append-add, take-suc-set, take-all}
-use Rattle.finite.specs.Below.{allBelow, tabulate}
+use Rattle.finite.specs.Below.{allBelow, each, tabulate}
 use Rattle.finite.proofs.Cases.{clash, by-bool, by-eq, and-both}
 
 module _ (p : ℕ → Bool) where
@@ -38,12 +38,12 @@ module _ (p : ℕ → Bool) where
 
 module _ {A : Type 0} (f : ℕ → A) where
   pub length-tabulate : (n : ℕ) → length (tabulate n f) ≡ n
-  unfolding tabulate
+  unfolding tabulate each
   length-tabulate zero = refl
   length-tabulate (suc n) = length-append (tabulate n f) (f n ∷ []) ∙ omega (arith, length-tabulate n)
 
   pub getD-tabulate : (n i : ℕ) (d : A) → i < n → getD (tabulate n f) i d ≡ f i
-  unfolding tabulate
+  unfolding tabulate each
   getD-tabulate zero i d l = absurd (not-suc-le-zero l)
   getD-tabulate (suc n) i d l =
       by-eq i n
@@ -59,7 +59,7 @@ module _ {A : Type 0} (f : ℕ → A) where
   module _ (l : List A) where
     -- a loop that stores f i at i has the first i places of the table
     pub tabulate-more : (i : ℕ) (v : A) → i < length l → take i l ≡ tabulate i f → v ≡ f i → take (i + 1) (set l i v) ≡ tabulate (i + 1) f
-    unfolding tabulate
+    unfolding tabulate each
     tabulate-more i v h e w = rw (add-one, take-suc-set l i v h, e, w)
 
     pub tabulate-all : (i n : ℕ) → i ≡ n → length l ≡ n → take i l ≡ tabulate i f → l ≡ tabulate n f

@@ -8,7 +8,11 @@ unfoldable pub allBelow : ℕ → (ℕ → Bool) → Bool
 allBelow zero p = true
 allBelow (suc n) p = allBelow n p && p n
 
+-- the pieces f 0, f 1, .., f (n − 1), one after the other
+unfoldable pub each : {A : Type 0} → (ℕ → List A) → ℕ → List A
+each f zero = []
+each f (suc n) = each f n ++ f n
+
 -- the list of f 0, f 1, .., f (n − 1)
 unfoldable pub tabulate : {A : Type 0} → ℕ → (ℕ → A) → List A
-tabulate zero f = []
-tabulate (suc n) f = tabulate n f ++ (f n ∷ [])
+tabulate n f = each (λ i. f i ∷ []) n

@@ -1,2 +1,5 @@
 pub mod Sum
 pub mod Below
+pub mod Tests
+pub mod Links
+pub mod internal

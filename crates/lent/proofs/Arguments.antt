@@ -116,6 +116,11 @@ module _ {m : ℕ} where
   abbrev pub handed-vals : (Ns : List (Argument m)) (κs : Lfts (suc m)) (a : Values Ns κs) → Valss (typesAt (values Ns) (κs .1))
   handed-vals Ns κs a = valss (typesAt (values Ns) (κs .1)) (spells Ns (κs .1)) (handed Ns κs a)
 
+  handed-same : (Ns : List (Argument m)) (κs : Lfts (suc m)) (a : Values Ns κs)
+      → flat (typesAt (values Ns) (κs .1)) (handed-vals Ns κs a) ≡ flat (typesAt (lents Ns) κs) (lent-vals Ns κs a)
+  handed-same [] κs a = refl
+  handed-same (N ∷ Ns) κs a = ap (λ (vs : List Val). N .val (κs .1) (a .0) ∷ vs) (handed-same Ns κs (a .1))
+
   -- ---- at exit is had what the function by value says of them
   abbrev pub Lasts : (Ns : List (Argument m)) (κs : Lfts m) → Denots (typesAt (values Ns) κs) → Type 0
   Lasts Ns κs = Fins κs (values Ns) (all yes (values Ns))
@@ -236,6 +241,14 @@ module _ {m : ℕ} {M : Type 1} (𝓤 : URA M) (H : Heap 𝓤) (A : Atoms 𝓤) 
     operands (N ∷ Ns) bs κs a F f at reads =
         and-then ! (load ! (local-at (at zero) (stop !)) (reads _ _ _ _ _ _ (on-left (whole !))))
         (operands Ns (bs .1) κs (a .1) F (λ j. f (suc j)) (λ j. at (suc j)) (λ q τ b o v back p. reads q τ b o v _ (on-right (on-right p))))
+
+    -- the same where a lent function is called
+    pub lent-operands : (Ns : List (Argument m)) (bs : Blocks Ns) (κs : Lfts (suc m)) (a : Values Ns κs) (F : Env 𝓤 H) (f : ℕ → ℕ)
+        → ((j : ℕ) → spotOf 𝓤 H E (f j) ≡ spotOf 𝓤 H (frame-of Ns bs ++ F) j)
+        → Readable W Γ (cells Ns bs κs a)
+        → Opds Go W Γ E (copies f Ns) (flat (typesAt (lents Ns) κs) (lent-vals Ns κs a))
+    lent-operands Ns bs κs a F f at reads =
+        subst (λ (vs : List Val). Opds Go W Γ E (copies f Ns) vs) (handed-same Ns κs a) (operands Ns bs κs a F f at reads)
 
   pub spot-past : (Ns : List (Argument m)) (bs : Blocks Ns) (F : Env 𝓤 H) (j : ℕ)
       → spotOf 𝓤 H (frame-of Ns bs ++ F) (past Ns j) ≡ spotOf 𝓤 H F j

@@ -50,7 +50,7 @@ pub record Answer : Type 2 where
   pub mir : Ty
   pub val : row .Denot → Val
   pub typed : {M : Type 1} (𝓤 : URA M) (H : Heap 𝓤) (A : Atoms 𝓤) → Given 𝓤 H A
-      → (y : row .Denot) → Is row y (val y ∷ []) → Of mir (val y)
+      → (y : row .Denot) (v : Val) → Is row y (v ∷ []) → Of mir v
   pub makes : {M : Type 1} (𝓤 : URA M) (H : Heap 𝓤) (A : Atoms 𝓤) → Given 𝓤 H A → Makes 𝓤 H A row (Is row)
 
 abbrev pub number-answer : Width → Answer
@@ -58,7 +58,7 @@ number-answer w = record {
   row = UInt w;
   mir = tyInt w;
   val = vint w;
-  typed = λ 𝓤 H A W y is. uint-lawful 𝓤 H A W w .typed y _ is .0;
+  typed = λ 𝓤 H A W y v is. uint-lawful 𝓤 H A W w .typed y _ is .0;
   makes = λ 𝓤 H A W. uint-makes 𝓤 H A W w;
 }
 
@@ -67,7 +67,7 @@ struct-answer S = record {
   row = the-row S;
   mir = the-mir S;
   val = the-val S;
-  typed = λ 𝓤 H A W y is. LL.lawful (S .type) (S .laws) 𝓤 H A W .typed y _ is .0;
+  typed = λ 𝓤 H A W y v is. LL.lawful (S .type) (S .laws) 𝓤 H A W .typed y _ is .0;
   makes = λ 𝓤 H A W. LL.makes (S .type) (S .plain) 𝓤 H A;
 }
 

@@ -26,10 +26,9 @@ use types.Run.{look, look-raw, init, store-raw, forget, stop, hop, fld, from, lo
 use types.Part.{whole, sub, look-in}
 use types.SemTy.{Body as Lies}
 use sound.WpLaws.{FmC, fmOf, WpFn-mono}
-use denote.RattleType.{Denots, Valss, flat, owns}
+use denote.RattleType.{Valss, flat, owns}
 use denote.Laws.{Is, Are, Ises, shows}
 use denote.Memory.{mem, pointee}
-use denote.Builtin.{RefMutOf}
 use denote.Ref.{RefT, MutRef, ptr-vals, mut-tells}
 use denote.Signature.{plain, typesAt}
 use denote.Steps.{only, opens, closes, owned, peeks, heard, nothing}
@@ -45,21 +44,21 @@ use denote.Triple.Table.{entered, cited}
 use denote.Triple.Clauses.{Ended, Clauses, closing}
 use denote.Triple.Walked.{says, Stays, stay-ref, walkOf, hasOf, goes-ref, Walks, ends-at, walked, walk-meets}
 use Rattle.lent.proofs.Data.{Record, the-row, the-mir, the-val, Answer, Event, pair-mir, Argument}
-use Rattle.lent.proofs.Arguments.{values, lents, Values, handed, Lasts, Seens, sees, seens, same-seens, told, lasts, lasts-fit, had-lasts}
+use Rattle.lent.proofs.Arguments.{values, lents, Values, handed, Lasts, Seens, sees, same-seens, told, lasts, lasts-fit, had-lasts}
 use Rattle.lent.proofs.Arguments.{all-go, lent-spells, lent-tells, lent-vals, handed-vals, own-handed, locals, past, frame-of}
 use Rattle.lent.proofs.Arguments.{allocated, passed, freed, local-at, spot-past}
+use Rattle.lent.proofs.Contract as Contract
+use Rattle.lent.proofs.Contract.{Promise}
 use Rattle.lent.proofs.Memory.{Beside, with-memory, reborrowed, memory-of, reborrows, passes-on, reborrow, pass-on}
 
--- a function by value of m lifetimes, with the types in it, and what it promises of the arguments, of the same at exit, of the record
--- before, of the answer and of the record after
+-- a function by value of m lifetimes, with the types in it, and what it promises
 pub record Lending (m : ℕ) : Type 2 where
   pub lent : Record
   pub answer : Answer
   pub event : Event lent answer
   pub memory : Beside m
   pub arguments : List (Argument m)
-  pub promise : (κs : Lfts m) → Denots (typesAt (values (with-memory memory arguments)) κs) → Seens (with-memory memory arguments) κs
-      → lent .type .D → answer .row .Denot → lent .type .D → Type 0
+  pub promise : Promise lent answer (with-memory memory arguments)
 
 -- ---- the function by value and the lent one: signatures, contracts and code
 module _ {m : ℕ} (L : Lending m) where
@@ -76,15 +75,7 @@ module _ {m : ℕ} (L : Lending m) where
   }
 
   abbrev Lent : Ended
-  Lent = record {
-    signature = record {
-      lifetimes = suc m;
-      outlives = [];
-      params = RefMutOf (0 ∷ []) tt (plain (λ κs. the-row S)) (λ κs. tt) ∷ lents Ns;
-      result = plain (λ κs. L .answer .row);
-    };
-    kept = (yes, all yes (lents Ns));
-  }
+  Lent = Contract.Lent S (L .answer) Ns
 
   -- the places of the record's copy, of the event, and of the reference passed on, which stand after the arguments
   abbrev copied : ℕ
@@ -129,11 +120,7 @@ module _ {m : ℕ} (L : Lending m) where
     }
 
     abbrev in-place : Clauses 𝓤 Lent
-    in-place κs a = record {
-      ghost = Unit {0};
-      requires = λ _. emp 𝓤;
-      ensures = λ _ r end. fact 𝓤 (L .promise (κs .1) (handed Ns κs (a .1)) (seens Ns κs (end .1)) (a .0 .now) r (end .0 .now));
-    }
+    in-place = Contract.in-place S (L .answer) Ns (L .promise) 𝓤
 
 module _ {M : Type 1} (𝓤 : URA M) (H : Heap 𝓤) (At : Atoms 𝓤) {m : ℕ} (L : Lending m) where
   -- the contract that the proof cites
@@ -254,7 +241,7 @@ module _ {M : Type 1} (𝓤 : URA M) (H : Heap 𝓤) (At : Atoms 𝓤) (W : Give
         (store-raw ! 3 refl (LL.lawful (R .type) (R .laws) 𝓤 H At W .typed (L .event .after r) _ (L .event .is-after r _ is) .0)) $
         assigns ! (of-opd ! (load ! (local-at (past-them 1) (fld ! refl (stop !))) (look-in ! 8 (sub ! 0 refl (whole !)))))
         (from ! (stop !))
-        (init ! 14 refl (L .answer .typed 𝓤 H At W (L .event .answer r) (L .event .is-answer r _ is))) $
+        (init ! 14 refl (L .answer .typed 𝓤 H At W (L .event .answer r) _ (L .event .is-answer r _ is))) $
         drop ! $ owned ! (the-row R) (Is (the-row R)) (LL.makes (R .type) (R .plain) 𝓤 H At) (L .event .after r) _ (L .event .is-after r _ is) $
         move ! (3 ∷ 0 ∷ 4 ∷ 5 ∷ 6 ∷ []) $ closes ! tt (the-row R) (L .event .after r) (the-val R (L .event .after r) ∷ []) b o $
         -- [what is seen; the borrow; its token; the arguments' tokens; what is left of them; the arguments; the event; …; the copy; …;

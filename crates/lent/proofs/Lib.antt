@@ -1,4 +1,6 @@
 pub mod Data
 pub mod Arguments
 pub mod Memory
+pub mod Contract
 pub mod Law
+pub mod Passing

@@ -10,7 +10,7 @@ use Rattle.finite.proofs.Cases.{clash}
 use Rattle.topology.specs.Answer.{isAccepted}
 use Rattle.topology.specs.declared.Fault.the-variants.{Stations, Beyond, Itself, OneWay, Apart}
 use Rattle.topology.proofs.Answers.{faultFrom, fault-refuses}
-use Rattle.linemap.specs.Reading.{readFaultNumbers, readNumbers, Outcome, outcomeOf}
+use Rattle.linemap.specs.Reading.{readFaultNumbers, readNumbers, ReadOutcome, readOutcomeOf}
 use Rattle.linemap.specs.Writing.{writeFaultNumbers, writeNumbers}
 use Rattle.linemap.specs.declared.Map.{Map}
 use Rattle.linemap.specs.declared.MapRead.{MapRead}
@@ -76,11 +76,11 @@ answer-pins Accepted (Refused g) e = clash (ap isAccepted (sym e)) (read-fault-r
 answer-pins (Refused f) Accepted e = clash (ap isAccepted e) (read-fault-refuses f)
 answer-pins (Refused f) (Refused g) e = ap Refused (sym (read-again f) ∙ ap readFaultFrom e ∙ read-again g)
 
-pub read-pins : (a b : MapRead) → outcomeOf a ≡ outcomeOf b → a ≡ b
+pub read-pins : (a b : MapRead) → readOutcomeOf a ≡ readOutcomeOf b → a ≡ b
 read-pins a b e =
     ap₂ (λ (answer : ReadAnswer) (map : Map). record { answer = answer; map = map })
-    (answer-pins (a .answer) (b .answer) (ap (λ (o : Outcome). o .numbers) e))
-    (ap (λ (o : Outcome). o .map) e)
+    (answer-pins (a .answer) (b .answer) (ap (λ (o : ReadOutcome). o .numbers) e))
+    (ap (λ (o : ReadOutcome). o .map) e)
 
 pub write-pins : (a b : WriteAnswer) → writeNumbers a ≡ writeNumbers b → a ≡ b
 write-pins (written.Written m) (written.Written n) e = ap (λ (l : List ℕ). written.Written (getD l 1 0)) e

@@ -7,9 +7,10 @@ use Prim.Native.Nat.{ℕ, zero, suc, _+_, _*_, _-_, _≤_, _<_}
 use native.Mathlib.Omega.{arith}
 use native.Mathlib.Numerals.{add-one}
 use native.Mathlib.Nat.{eq-or-lt-of-le}
-use lib.ListN.{length, getD, set, replicate, length-append}
-use lib.Seq.{set-at, append-snoc, getD-at}
-use Rattle.linemap.specs.Numbers.{each}
+use lib.ListN.{length, getD, set, replicate, length-append, List·getD-append}
+use lib.Seq.{set-at, append-snoc}
+use Rattle.finite.specs.Below.{each, tabulate}
+use Rattle.finite.proofs.Below.{length-tabulate, getD-tabulate}
 use Rattle.linemap.specs.Reading.{column}
 
 -- n pieces of w elements
@@ -44,7 +45,7 @@ each-same f g (suc n) h =
     ap (λ (x : List ℕ). x ++ f n) (each-same f g n (λ i l. h i (omega arith))) ∙ ap (λ (x : List ℕ). each g n ++ x) (h n (omega arith))
 
 pub column-same : (f g : ℕ → ℕ) (n : ℕ) → ((i : ℕ) → i < n → f i ≡ g i) → column f n ≡ column g n
-unfolding column
+unfolding column tabulate
 column-same f g n h =
     ap (λ (x : List ℕ). x ++ replicate (64 - n) 0)
     (each-same (λ i. f i ∷ []) (λ i. g i ∷ []) n (λ i l. ap (λ (x : ℕ). x ∷ []) (h i l)))
@@ -53,25 +54,21 @@ column-same f g n h =
 pub column-at : (f : ℕ → ℕ) (n i : ℕ) → i < n → getD (column f n) i 0 ≡ f i
 unfolding column
 column-at f n i h =
-    let p = each-split (λ j. f j ∷ []) n i h in
-    let r : List ℕ = p .0 ++ replicate (64 - n) 0 in
-    ap (λ (x : List ℕ). getD x i 0)
-    (ap (λ (x : List ℕ). x ++ replicate (64 - n) 0) (p .1) ∙ append-assoc (each (λ j. f j ∷ []) i) (f i ∷ p .0) (replicate (64 - n) 0))
-    ∙ getD-at (each (λ j. f j ∷ []) i) (f i) r 0 i (length-each (λ j. f j ∷ []) 1 (λ j. refl) i ∙ omega arith)
+    List·getD-append (tabulate n f) (replicate (64 - n) 0) 0 i (omega (arith, length-tabulate f n, h)) ∙ getD-tabulate f n i 0 h
 
 -- no place
 pub column-none : (f : ℕ → ℕ) → column f 0 ≡ replicate 64 0
-unfolding column each
+unfolding column tabulate each
 column-none f = refl
 
 -- one place more
 pub column-more : (f : ℕ → ℕ) (i : ℕ) → i < 64 → set (column f i) i (f i) ≡ column f (i + 1)
-unfolding column each
+unfolding column tabulate each
 column-more f i h =
     let e : 64 - i ≡ suc (64 - (i + 1)) = omega arith in
-    let p : List ℕ = each (λ j. f j ∷ []) i in
+    let p : List ℕ = tabulate i f in
     let r : List ℕ = replicate (64 - (i + 1)) 0 in
     ap (λ (n : ℕ). set (p ++ replicate n 0) i (f i)) e
-    ∙ set-at p 0 r (f i) i (length-each (λ j. f j ∷ []) 1 (λ j. refl) i ∙ omega arith)
+    ∙ set-at p 0 r (f i) i (length-tabulate f i)
     ∙ sym (append-snoc p (f i) r)
-    ∙ ap (λ (n : ℕ). each (λ j. f j ∷ []) n ++ r) (sym (add-one i))
+    ∙ ap (λ (n : ℕ). tabulate n f ++ r) (sym (add-one i))

@@ -3,15 +3,16 @@ use mathlib.Core.Path.{_≡_, refl}
 use mathlib.Core.List.{List, [], _∷_, _++_}
 use Prim.Native.Nat.{ℕ}
 use lib.ListN.{replicate, drop}
-use Rattle.finite.specs.Sum.{sumTo, indicator}
-use Rattle.wave.specs.Graph.{links}
+use Rattle.finite.specs.Sum.{foldTo, indicator}
+use Rattle.finite.specs.Links.{links}
 use Rattle.bitset.specs.Set.{member, within}
 use Rattle.aggregate.specs.Aggregate.{rootOf}
 use Rattle.topology.specs.Acceptance.{anyBelow, near, firstFrom, verdictOf, linksOf}
-use Rattle.linemap.specs.Numbers.{number, bytes, sumWords, each}
+use Rattle.linemap.specs.Numbers.{number, bytes, sumWords}
+use Rattle.finite.specs.Below.{each, tabulate}
 use Rattle.linemap.specs.Maps.{linksIn}
 use Rattle.linemap.specs.Stored.{rowBytes, trailerBytes, bodyOf, checkWord, storedOf}
-use Rattle.linemap.specs.Reading.{acceptedAs, column, emptyMap, reading}
+use Rattle.linemap.specs.Reading.{readAs, column, emptyMap, reading}
 use Rattle.linemap.specs.Writing.{writing, written}
 use Rattle.linemap.specs.declared.Map.{Map}
 
@@ -46,12 +47,12 @@ unfolding storedOf bodyOf trailerBytes rowBytes each bytes checkWord sumWords nu
 triangle-stored = refl
 
 -- after a byte that is not read
-triangle-reads : reading (9 ∷ triangle-bytes) ≡ acceptedAs triangle
-unfolding reading column each sumWords number verdictOf firstFrom member within anyBelow near rootOf
+triangle-reads : reading (9 ∷ triangle-bytes) ≡ readAs triangle
+unfolding reading column tabulate each sumWords number verdictOf firstFrom member within anyBelow near rootOf
 triangle-reads = refl
 
 triangle-links : linksIn triangle ≡ 0 ∷ 3 ∷ []
-unfolding linksOf verdictOf firstFrom member within anyBelow near rootOf links sumTo indicator
+unfolding linksOf verdictOf firstFrom member within anyBelow near rootOf links foldTo indicator
 triangle-links = refl
 
 -- one byte too few, and one more than needed, which stays

@@ -5,6 +5,7 @@ pub mod Digits
 pub mod StoredForm
 pub mod Rules
 pub mod Accepted
+pub mod Fits
 pub mod WriteRead
 pub mod ReadWrite
 pub mod RoundTrips

@@ -6,7 +6,7 @@ use native.Mathlib.Nat.{add-zero, add-suc, suc-add, zero-add}
 use native.Mathlib.Numerals.{add-one}
 use lib.ListN.{length, set, drop}
 use lib.Seq.{sets, sets-eq}
-use Rattle.linemap.specs.Numbers.{put}
+use Rattle.linemap.specs.internal.Stages.{put}
 
 pub put-none : (l : List ℕ) (at : ℕ) → put l at [] ≡ l
 unfolding put

@@ -7,9 +7,10 @@ use native.Mathlib.Omega.{arith}
 use native.Mathlib.Nat.{mul-zero, mul-suc}
 use lib.ListN.{length, getD, take, drop, length-drop, take-append-drop}
 use lib.Seq.{take-all, length-take-le}
-use Rattle.linemap.specs.Numbers.{number, bytes, sumWords, each}
+use Rattle.linemap.specs.Numbers.{number, bytes, sumWords}
+use Rattle.finite.specs.Below.{each}
 use Rattle.linemap.specs.Stored.{rowLength, storedLength, wordCount, rowBytes, trailerBytes, bodyOf, storedOf, checkWord}
-use Rattle.linemap.specs.Reading.{acceptedAs, trailerIn, stationsIn, lotIn, startIn, mapAt, reading}
+use Rattle.linemap.specs.Reading.{readAs, trailerIn, stationsIn, lotIn, startIn, mapAt, reading}
 use Rattle.linemap.specs.declared.Map.{Map}
 use Rattle.linemap.proofs.Each.{each-same, column-at}
 use Rattle.linemap.proofs.Digits.{front-sum, past-sum, sum-small, check-only, segment, segment-join, number-small, bytes-again}
@@ -103,7 +104,7 @@ module _ (s : List ℕ) (byte : (i : ℕ) → getD s i 0 < 2 ^ 8) {n : Map} (r :
       join start (rowLength * k + 12) 4 body-is (field 4 _ at at check-is refl (omega (arith, r .fits)))
       ∙ take-all (rowLength * k + 12 + 4) (drop start s) (omega (arith, length-drop start s, r .fits))
 
-pub read-writes : (s : List ℕ) (m : Map) → ((i : ℕ) → getD s i 0 < 2 ^ 8) → reading s ≡ acceptedAs m
+pub read-writes : (s : List ℕ) (m : Map) → ((i : ℕ) → getD s i 0 < 2 ^ 8) → reading s ≡ readAs m
     → storedOf m ≡ drop (length s - storedLength (m .k)) s
 read-writes s m byte e =
     let r = read-facts s m e in

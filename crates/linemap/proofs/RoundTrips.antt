@@ -3,7 +3,8 @@ use mathlib.Core.Path.{_≡_, refl, ap, ap₂, _∙_}
 use mathlib.Core.List.{List, _++_}
 use Prim.Native.Nat.{ℕ, _-_}
 use lib.ListN.{getD}
-use Rattle.linemap.specs.Numbers.{bytes, each, sumWords}
+use Rattle.linemap.specs.Numbers.{bytes, sumWords}
+use Rattle.finite.specs.Below.{each}
 use Rattle.linemap.specs.Stored.{wordCount, rowBytes, trailerBytes, bodyOf, storedOf, checkWord}
 use Rattle.linemap.specs.RoundTrip.{Equal, clearedOf, RoundTrips}
 use Rattle.linemap.specs.declared.Map.{Map}

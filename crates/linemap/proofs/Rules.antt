@@ -1,109 +1,156 @@
--- Reading and writing rule by rule: what reading comes to at the first of 1 to 5 that refuses, what is left after these, and what
--- an accepted reading went by; the three ways that writing ends. Assumes nothing.
+-- Reading and writing rule by rule: what the reader's parts leave of a reading, what is left after 1 to 5, and what an accepted
+-- reading went by; the three ways that writing ends. Assumes nothing.
 use mathlib.Core.Path.{_≡_, refl, sym, ap, _∙_}
 use mathlib.Core.Bool.{Bool, true, false}
 use mathlib.Core.List.{List, _++_}
-use Prim.Native.Nat.{ℕ, _+_, _*_, _≤_, _<_}
+use Prim.Native.Nat.{ℕ, _+_, _*_, _-_, _≤_, _<_}
 use native.Mathlib.Omega.{arith}
 use lib.ListN.{length, drop}
 use lib.Dec.{leb, ltb, eqb}
-use borrow.Author.Tests.{le-leb, lt-leb, eq-eqb, ne-eqb, leb-true, eqb-true}
+use borrow.Author.Tests.{le-leb, lt-leb, eq-eqb, ne-eqb, leb-true, leb-false, ltb-true, eqb-true}
 use Rattle.finite.proofs.Cases.{clash, and-both}
-use Rattle.topology.specs.Answer.{isAccepted, unless}
-use Rattle.topology.specs.Acceptance.{faultNumbers, isStationCount}
+use Rattle.topology.specs.Answer.{isAccepted}
+use Rattle.finite.specs.Tests.{unless}
+use Rattle.topology.specs.Acceptance.{faultNumbers}
+use Rattle.bitset.specs.Set.{isStationCount}
 use Rattle.topology.specs.declared.Fault.{Fault}
 use Rattle.topology.specs.declared.Fault.the-variants.{Stations}
 use Rattle.topology.proofs.Answers.{fault-refuses}
-use Rattle.linemap.specs.Numbers.{number, sumWords, put}
+use Rattle.linemap.specs.Numbers.{number, sumWords}
 use Rattle.linemap.specs.Maps.{acceptance}
 use Rattle.linemap.specs.Stored.{rowLength, trailerLength, storedLength, wordCount, storedOf}
-use Rattle.linemap.specs.Reading.{acceptedAs, Outcome, refused, stationsIn, rowLengthIn, distanceIn, lotIn, startIn, mapAt, judged, reading}
+use Rattle.linemap.specs.Reading.{readAs, ReadOutcome, readRefused, stationsIn, rowLengthIn, distanceIn, lotIn, startIn, mapAt, judged, reading}
 use Rattle.linemap.specs.Writing.{writeFaultNumbers, writeNumbers, writing, written}
-use Rattle.linemap.specs.Stages.{Found, rowOf}
+use Rattle.linemap.specs.internal.Stages.{trailerOf, trailerAnswer, rowOf, rowsOutcome, put}
 use Rattle.linemap.specs.declared.Map.{Map}
 use Rattle.linemap.specs.declared.ReadFault.{ReadFault}
 use Rattle.linemap.specs.declared.ReadFault.the-variants.{Short, RowLength, Distance, Rows, CheckWord, Unfit}
 use Rattle.linemap.specs.declared.WriteFault.the-variants.{Buffer}
 use Rattle.linemap.specs.declared.WriteAnswer.the-variants.{Written}
+use Rattle.linemap.specs.declared.ReadAnswer.{ReadAnswer}
+use Rattle.linemap.specs.declared.ReadAnswer.the-variants as answer
+use Rattle.linemap.specs.declared.reading.TrailerRead.{TrailerRead}
+use Rattle.linemap.specs.declared.reading.TrailerRead.the-variants as trailer
 use Rattle.linemap.specs.declared.reading.RowRead.the-variants as row
 use Rattle.linemap.proofs.Answers.{read-fault-refuses}
 use Rattle.linemap.proofs.Put.{put-front}
 use Rattle.linemap.proofs.StoredForm.{length-stored}
 
--- a row that ends within the bytes
-pub row-found : (s : List ℕ) (at : ℕ) → at + rowLength ≤ length s → rowOf s at ≡ row.Row (number s at 4) (number s (at + 4) 8)
-unfolding rowOf
-row-found s at h = rw (le-leb (at + rowLength) (length s) h)
+some-station : (k : ℕ) → isStationCount k ≡ true → 0 < k
+some-station k count = ltb-true 0 k (and-both (ltb 0 k) (leb k 64) count .0)
 
 pub few-stations : (k : ℕ) → isStationCount k ≡ true → k ≤ 64
 few-stations k count = leb-true k 64 (and-both (ltb 0 k) (leb k 64) count .1)
 
-module _ (s : List ℕ) where
-  pub short : length s < trailerLength → reading s ≡ refused Short
-  unfolding reading
-  short h = rw (lt-leb trailerLength (length s) h)
+row-known : (b : Bool) (count set x y : ℕ) → unless b row.Outside (row.Row count set) ≡ row.Row x y → (b ≡ true) × (x ≡ count) × (y ≡ set)
+row-known true count set x y e = (refl, cc, cc)
+row-known false count set x y e = let never : _≡_ {A = ℕ} 0 1 = cc in absurd (omega arith)
 
-  module _ (long : trailerLength ≤ length s) where
-    pub row-length : (rowLengthIn s ≡ rowLength → ⊥) → reading s ≡ refused RowLength
-    unfolding reading
-    row-length ne = rw (le-leb trailerLength (length s) long, ne-eqb (rowLengthIn s) rowLength ne)
+row-unknown : (b : Bool) (count set : ℕ) → unless b row.Outside (row.Row count set) ≡ row.Outside → b ≡ false
+row-unknown false count set e = refl
+row-unknown true count set e = let never : _≡_ {A = ℕ} 0 1 = cc in absurd (omega arith)
 
-    module _ (row : rowLengthIn s ≡ rowLength) where
-      pub stations : isStationCount (stationsIn s) ≡ false → reading s ≡ refused (Unfit Stations)
-      unfolding reading
-      stations none = rw (le-leb trailerLength (length s) long, row, none)
+-- a row that was read starts within the bytes, at its place from the end; one that was not starts before them
+module _ (s : List ℕ) (back : ℕ) where
+  pub row-within : (count set : ℕ) → rowOf s back ≡ row.Row count set
+      → (back ≤ length s) × (count ≡ number s (length s - back) 4) × (set ≡ number s (length s - back + 4) 8)
+  unfolding rowOf
+  row-within count set e =
+      let known = row-known (leb back (length s)) _ _ count set e in
+      (leb-true back (length s) (known .0), known .1, known .2)
 
-      module _ (count : isStationCount (stationsIn s) ≡ true) where
-        pub distance : (distanceIn s ≡ rowLength * stationsIn s → ⊥) → reading s ≡ refused Distance
-        unfolding reading
-        distance ne =
-            rw (le-leb trailerLength (length s) long, row, count, ne-eqb (distanceIn s) (rowLength * stationsIn s) ne)
+  pub row-outside : rowOf s back ≡ row.Outside → length s < back
+  unfolding rowOf
+  row-outside e = leb-false back (length s) (row-unknown (leb back (length s)) _ _ e)
 
-        module _ (back : distanceIn s ≡ rowLength * stationsIn s) where
-          pub rows : length s < storedLength (stationsIn s) → reading s ≡ refused Rows
-          unfolding reading
-          rows far =
-              rw (
-                le-leb trailerLength (length s) long,
-                row,
-                count,
-                eq-eqb (distanceIn s) (rowLength * stationsIn s) back,
-                lt-leb (storedLength (stationsIn s)) (length s) far,
-              )
+-- the rows start before the bytes; their words do not add to zero; the map is judged
+module _ (s : List ℕ) (k lot : ℕ) where
+  pub rows-outside : length s < storedLength k → rowsOutcome s k lot ≡ readRefused Rows
+  unfolding rowsOutcome
+  rows-outside far = rw (lt-leb (storedLength k) (length s) far)
 
-          left : storedLength (stationsIn s) ≤ length s
-              → reading s
-              ≡ unless (eqb (sumWords s (startIn s) (wordCount (stationsIn s))) 0) (refused CheckWord)
-              (judged (mapAt s (stationsIn s) (lotIn s) (startIn s)))
-          unfolding reading
-          left fits =
-              rw (
-                le-leb trailerLength (length s) long,
-                row,
-                count,
-                eq-eqb (distanceIn s) (rowLength * stationsIn s) back,
-                le-leb (storedLength (stationsIn s)) (length s) fits,
-              )
+  module _ (fits : storedLength k ≤ length s) where
+    pub words-off : (sumWords s (length s - storedLength k) (wordCount k) ≡ 0 → ⊥) → rowsOutcome s k lot ≡ readRefused CheckWord
+    unfolding rowsOutcome
+    words-off ne = rw (le-leb (storedLength k) (length s) fits, ne-eqb (sumWords s (length s - storedLength k) (wordCount k)) 0 ne)
 
-          pub found : (k lot start : ℕ) → k ≡ stationsIn s → lot ≡ lotIn s → start ≡ startIn s → storedLength k ≤ length s
-              → Found s k lot start
-          found k lot start ek el es fits =
-              record {
-                few = omega (arith, few-stations (stationsIn s) count);
-                ends = omega arith;
-                rest = rw (ek, el, es) (left (rw ek at fits));
-              }
+    pub words-add : sumWords s (length s - storedLength k) (wordCount k) ≡ 0
+        → rowsOutcome s k lot ≡ judged (mapAt s k lot (length s - storedLength k))
+    unfolding rowsOutcome
+    words-add zero = rw (le-leb (storedLength k) (length s) fits, eq-eqb (sumWords s (length s - storedLength k) (wordCount k)) 0 zero)
+
+-- what an answer of 2 to 4 makes of the rest of a reading, and the reading of a trailer that was read
+abbrev pub answered : ReadAnswer → ReadOutcome → ReadOutcome
+answered (answer.Refused fault) rest = readRefused fault
+answered answer.Accepted rest = rest
+
+abbrev pub ruled : List ℕ → TrailerRead → ReadOutcome
+ruled s trailer.Short = readRefused Short
+ruled s (trailer.Fields k row distance lot) = answered (trailerAnswer k row distance) (rowsOutcome s k lot)
+
+answered-unless : (row count back : Bool) (rest : ReadOutcome)
+    → unless row (readRefused RowLength) (unless count (readRefused (Unfit Stations)) (unless back (readRefused Distance) rest))
+    ≡ answered (unless row (answer.Refused RowLength)
+    (unless count (answer.Refused (Unfit Stations)) (unless back (answer.Refused Distance) answer.Accepted))) rest
+answered-unless false count back rest = refl
+answered-unless true false back rest = refl
+answered-unless true true false rest = refl
+answered-unless true true true rest = refl
+
+ruled-unless : (long : Bool) (s : List ℕ) (fields : TrailerRead) (rest : ReadOutcome) → rest ≡ ruled s fields
+    → unless long (readRefused Short) rest ≡ ruled s (unless long trailer.Short fields)
+ruled-unless false s fields rest e = refl
+ruled-unless true s fields rest e = e
+
+pub reading-ruled : (s : List ℕ) → reading s ≡ ruled s (trailerOf s)
+unfolding reading trailerOf trailerAnswer rowsOutcome
+reading-ruled s =
+    ruled-unless (leb trailerLength (length s)) s (trailer.Fields (stationsIn s) (rowLengthIn s) (distanceIn s) (lotIn s)) _
+    (answered-unless (eqb (rowLengthIn s) rowLength) (isStationCount (stationsIn s)) (eqb (distanceIn s) (rowLength * stationsIn s)) _)
+
+-- an accepted trailer has a number of stations
+pub trailer-few : (k row distance : ℕ) → trailerAnswer k row distance ≡ answer.Accepted → (0 < k) × (k ≤ 64)
+unfolding trailerAnswer
+trailer-few k row distance ok =
+    let count = counted (eqb row rowLength) (isStationCount k) (eqb distance (rowLength * k)) ok in
+    (some-station k count, few-stations k count)
+  where
+    counted : (row count back : Bool)
+        → unless row (answer.Refused RowLength) (unless count (answer.Refused (Unfit Stations)) (unless back (answer.Refused Distance) answer.Accepted))
+        ≡ answer.Accepted
+        → count ≡ true
+    counted row true back e = refl
+    counted true false back e = let never : _≡_ {A = ℕ} 0 1 = cc in absurd (omega arith)
+    counted false false back e = let never : _≡_ {A = ℕ} 0 1 = cc in absurd (omega arith)
+
+-- what is left of a reading that 1 to 5 let through
+pub reading-left : (s : List ℕ) (k lot start : ℕ) → stationsIn s ≡ k → lotIn s ≡ lot → length s ≡ start + storedLength k
+    → rowLengthIn s ≡ rowLength → isStationCount k ≡ true → distanceIn s ≡ rowLength * k
+    → reading s ≡ unless (eqb (sumWords s start (wordCount k)) 0) (readRefused CheckWord) (judged (mapAt s k lot start))
+unfolding reading
+reading-left s k lot start stations-are lot-is ends row count back =
+    let starts : length s - storedLength k ≡ start = omega arith in
+    rw (
+      le-leb trailerLength (length s) (omega arith),
+      row,
+      stations-are,
+      lot-is,
+      count,
+      eq-eqb (distanceIn s) (rowLength * k) back,
+      le-leb (storedLength k) (length s) (omega arith),
+      starts,
+    )
 
 -- an accepted reading passed the test, and the rest accepts it
-passed : (b : Bool) (fault : ReadFault) (rest : Outcome) (m : Map) → unless b (refused fault) rest ≡ acceptedAs m
-    → (b ≡ true) × (rest ≡ acceptedAs m)
+passed : (b : Bool) (fault : ReadFault) (rest : ReadOutcome) (m : Map) → unless b (readRefused fault) rest ≡ readAs m
+    → (b ≡ true) × (rest ≡ readAs m)
 passed true fault rest m e = (refl, e)
-passed false fault rest m e = clash (ap (λ (o : Outcome). isAccepted (o .numbers)) e) (read-fault-refuses fault)
+passed false fault rest m e = clash (ap (λ (o : ReadOutcome). isAccepted (o .numbers)) e) (read-fault-refuses fault)
 
-judged-is : (b : Bool) (n m : Map) → isAccepted (acceptance n) ≡ b → judged n ≡ acceptedAs m
+judged-is : (b : Bool) (n m : Map) → isAccepted (acceptance n) ≡ b → judged n ≡ readAs m
     → (isAccepted (acceptance n) ≡ true) × (n ≡ m)
-judged-is true n m t e = (t, ap (λ (o : Outcome). o .map) (rw t at e))
-judged-is false n m f e = clash (ap (λ (o : Outcome). isAccepted (o .numbers)) (rw f at e)) f
+judged-is true n m t e = (t, ap (λ (o : ReadOutcome). o .map) (rw t at e))
+judged-is false n m f e = clash (ap (λ (o : ReadOutcome). isAccepted (o .numbers)) (rw f at e)) f
 
 -- what an accepted reading went by
 pub record Read (s : List ℕ) (m : Map) : Type 0 where
@@ -114,7 +161,7 @@ pub record Read (s : List ℕ) (m : Map) : Type 0 where
   pub good : isAccepted (acceptance m) ≡ true
   pub is : mapAt s (stationsIn s) (lotIn s) (startIn s) ≡ m
 
-pub read-facts : (s : List ℕ) (m : Map) → reading s ≡ acceptedAs m → Read s m
+pub read-facts : (s : List ℕ) (m : Map) → reading s ≡ readAs m → Read s m
 unfolding reading
 read-facts s m e =
     let k = stationsIn s in

@@ -5,7 +5,9 @@ use mathlib.Core.List.{List, _++_}
 use Prim.Native.Nat.{ℕ, _+_, _*_, _-_, _≤_}
 use native.Mathlib.Omega.{arith}
 use lib.ListN.{length, drop, length-append}
-use Rattle.linemap.specs.Numbers.{bytes, put, each, sumWords}
+use Rattle.linemap.specs.Numbers.{bytes, sumWords}
+use Rattle.linemap.specs.internal.Stages.{put}
+use Rattle.finite.specs.Below.{each}
 use Rattle.linemap.specs.Stored.{rowLength, trailerLength, storedLength, wordCount, rowBytes, trailerBytes, bodyOf, storedOf, checkWord}
 use Rattle.linemap.specs.declared.Map.{Map}
 use Rattle.linemap.proofs.Each.{length-each}

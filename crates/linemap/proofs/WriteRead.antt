@@ -1,7 +1,6 @@
 -- Writing, then reading: each field of the stored form is found again where the reader looks for it, whatever stands before, and
 -- the map of these fields is accepted since the sets below k are the same. Assumes nothing.
 use mathlib.Core.Path.{_≡_, sym, ap, ap₂, _∙_}
-use mathlib.Core.Bool.{true}
 use mathlib.Core.List.{List, _++_, append-assoc}
 use Prim.Native.Nat.{ℕ, suc, _+_, _*_, _-_, _%_, _^_, _<_}
 use native.Mathlib.Nat.{mod-eq-of-lt}
@@ -10,20 +9,20 @@ use lib.ListN.{length, getD, length-append}
 use borrow.Author.Tests.{eq-eqb, lt-ltb, le-leb}
 use Rattle.aggregate.specs.Aggregate.{rootOf}
 use Rattle.topology.specs.Answer.{accepted, isAccepted}
-use Rattle.topology.specs.Acceptance.{isStationCount, Web}
+use Rattle.topology.specs.Web.{Web}
 use Rattle.topology.proofs.Webs.{web-accepted, web-agree}
-use Rattle.linemap.specs.Numbers.{number, bytes, sumWords, each}
+use Rattle.linemap.specs.Numbers.{number, bytes, sumWords}
+use Rattle.finite.specs.Below.{each}
 use Rattle.linemap.specs.Maps.{configOf, acceptance}
 use Rattle.linemap.specs.Stored.{rowLength, storedLength, wordCount, rowBytes, trailerBytes, bodyOf, storedOf, checkWord}
-use Rattle.linemap.specs.Reading.{acceptedAs, stationsIn, rowLengthIn, distanceIn, lotIn, mapAt, judged, reading}
+use Rattle.linemap.specs.Reading.{readAs, stationsIn, rowLengthIn, distanceIn, lotIn, mapAt, judged, reading}
 use Rattle.linemap.specs.RoundTrip.{Fits, clearedOf}
-use Rattle.linemap.specs.Stages.{Found}
 use Rattle.linemap.specs.declared.Map.{Map}
 use Rattle.linemap.proofs.Accepted.{map-web}
 use Rattle.linemap.proofs.Each.{length-each, each-split, column-same, column-at}
 use Rattle.linemap.proofs.Digits.{length-bytes, front-number, past-number, front-sum, past-sum, number-of-bytes, sum-small, check-small, check-zero}
 use Rattle.linemap.proofs.StoredForm.{length-row, length-rows, length-body, length-stored}
-use Rattle.linemap.proofs.Rules.{found}
+use Rattle.linemap.proofs.Rules.{reading-left}
 
 -- a number of n bytes that stands between two lists
 number-between : (p q : List ℕ) (n x at : ℕ) → at ≡ length p → x < 2 ^ (8 * n) → number (p ++ (bytes n x ++ q)) at n ≡ x
@@ -99,13 +98,6 @@ module _ (m : Map) where
         field (rows ++ (bytes 2 (m .k) ++ (bytes 2 rowLength ++ bytes 4 (rowLength * m .k)))) (bytes 4 check) 4 (m .lot) _
         (simp append-assoc) (simp (length-append, length-bytes) (omega (arith, len, length-rows m))) (fits .lot)
 
-    is-found : Found whole (m .k) (m .lot) (length before)
-    is-found =
-        let count : isStationCount (stationsIn whole) ≡ true =
-        ap isStationCount stations-are ∙ rw (lt-ltb 0 (m .k) (web .some-station), le-leb (m .k) 64 (web .few-stations)) in
-        found whole (omega (arith, len)) row-is count (distance-is ∙ ap (λ (k : ℕ). rowLength * k) (sym stations-are))
-        (m .k) (m .lot) (length before) (sym stations-are) (sym lot-is) (omega (arith, len, stations-are)) (omega (arith, len))
-
     sum-is : sumWords whole (length before) (wordCount (m .k)) ≡ 0
     sum-is = past-sum before (storedOf m) (wordCount (m .k)) 0 (length before) (omega arith) ∙ sum-zero
 
@@ -145,8 +137,9 @@ module _ (m : Map) where
         (web-agree (rootOf (configOf m)) (m .k) (m .neighbours) (clearedOf m .neighbours)
         (λ i h. sym (column-at (λ j. getD (m .neighbours) j 0) (m .k) i h)) web)
 
-    pub written-reads : reading whole ≡ acceptedAs (clearedOf m)
+    pub written-reads : reading whole ≡ readAs (clearedOf m)
     written-reads =
-        is-found .rest
+        reading-left whole (m .k) (m .lot) (length before) stations-are lot-is len row-is
+        (rw (lt-ltb 0 (m .k) (web .some-station), le-leb (m .k) 64 (web .few-stations))) distance-is
         ∙ rw (eq-eqb (sumWords whole (length before) (wordCount (m .k))) 0 sum-is)
         (ap judged map-is ∙ rw (ap isAccepted cleared-accepted))

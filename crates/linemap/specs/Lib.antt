@@ -4,5 +4,5 @@ pub mod Stored
 pub mod Reading
 pub mod Writing
 pub mod RoundTrip
-pub mod Stages
 pub mod Openings
+pub mod internal

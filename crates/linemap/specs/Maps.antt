@@ -1,9 +1,12 @@
 -- A line map by value, and the rules on one that is handed over (document 01, "The line map").
 use mathlib.Core.List.{List}
 use Prim.Native.Nat.{ℕ}
+use lib.ListN.{getD}
+use Rattle.finite.specs.Sum.{sum}
+use Rattle.finite.specs.Links.{links}
 use Rattle.aggregate.specs.declared.Config.{Config}
 use Rattle.aggregate.specs.Aggregate.{rootOf}
-use Rattle.topology.specs.Acceptance.{verdictOf, linksOf}
+use Rattle.topology.specs.Acceptance.{linked, verdictOf, linksOf}
 use Rattle.linemap.specs.declared.Map.{Map}
 
 -- what a net on this map is opened with
@@ -17,3 +20,11 @@ acceptance m = verdictOf (rootOf (configOf m)) (m .k) (m .neighbours)
 -- "A link is an unordered pair; m counts them": 0 and m, or the number of the refusal
 abbrev pub linksIn : Map → List ℕ
 linksIn m = linksOf (rootOf (configOf m)) (m .k) (m .neighbours)
+
+-- m of document 01, as a number
+abbrev pub linkCount : Map → ℕ
+linkCount m = links (m .k) (linked (m .k) (m .neighbours))
+
+-- "the sum of all the map's counts" (demand 3)
+abbrev pub totalCount : Map → ℕ
+totalCount m = sum (m .k) (λ i. getD (m .counts) i 0)

@@ -1,8 +1,7 @@
 -- Numbers in bytes (document 01: "stored numbers are unsigned, little-endian").
-use mathlib.Core.List.{List, [], _∷_, _++_}
+use mathlib.Core.List.{List, [], _∷_}
 use Prim.Native.Nat.{ℕ, suc, zero, _+_, _*_, _%_, _/_, _^_}
 use lib.ListN.{getD}
-use lib.Seq.{sets}
 
 -- the number in n bytes from `at`, lowest byte first
 unfoldable pub number : List ℕ → ℕ → ℕ → ℕ
@@ -18,12 +17,3 @@ bytes (suc n) x = x % 2 ^ 8 ∷ bytes n (x / 2 ^ 8)
 unfoldable pub sumWords : List ℕ → ℕ → ℕ → ℕ
 sumWords s at zero = 0
 sumWords s at (suc n) = (sumWords s at n + number s (at + 4 * n) 4) % 2 ^ 32
-
--- the pieces f 0, f 1, .., f (n − 1), one after the other
-unfoldable pub each : (ℕ → List ℕ) → ℕ → List ℕ
-each f zero = []
-each f (suc n) = each f n ++ f n
-
--- the list l with vs stored from `at` on (a helper of the writer's parts: no public contract cites it)
-unfoldable pub put : List ℕ → ℕ → List ℕ → List ℕ
-put l at vs = sets l at vs

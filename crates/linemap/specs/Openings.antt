@@ -1,7 +1,7 @@
 -- Opening a net of either kind on a line map that is handed over: "3, 7 to 10" (document 01, "Causes and numbers"), else the fresh net.
-use mathlib.Core.Bool.{cond}
 use mathlib.Core.List.{List}
 use Prim.Native.Nat.{ℕ}
+use Rattle.finite.specs.Tests.{unless}
 use Rattle.topology.specs.declared.Verdict.{Verdict}
 use Rattle.topology.specs.Answer.{isAccepted}
 use Rattle.topology.specs.Acceptance.{verdictNumbers}
@@ -15,7 +15,7 @@ pub record Opening (Net : Type 0) : Type 0 where
 
 -- an accepted map opens its fresh net, and a refused one opens none
 unfoldable pub openingBy : {Net : Type 0} → (Map → Net) → Net → Map → Opening Net
-openingBy freshOn none m = record { numbers = acceptance m; net = cond (isAccepted (acceptance m)) (freshOn m) none }
+openingBy freshOn none m = record { numbers = acceptance m; net = unless (isAccepted (acceptance m)) none (freshOn m) }
 
 -- what a verdict and the net beside it come to
 abbrev pub openingOf : {Net : Type 0} → Verdict → Net → Opening Net

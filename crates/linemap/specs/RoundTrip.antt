@@ -7,7 +7,7 @@ use lib.ListN.{length, getD, drop}
 use Rattle.topology.specs.Answer.{accepted}
 use Rattle.linemap.specs.Maps.{acceptance}
 use Rattle.linemap.specs.Stored.{storedLength, storedOf}
-use Rattle.linemap.specs.Reading.{acceptedAs, column, reading}
+use Rattle.linemap.specs.Reading.{readAs, column, reading}
 use Rattle.linemap.specs.declared.Map.{Map}
 
 -- each number fits its field, as in every map that code holds
@@ -26,22 +26,19 @@ pub record Equal (m n : Map) : Type 0 where
 -- m with zero in the places k and above
 abbrev pub clearedOf : Map → Map
 clearedOf m =
-    record {
-      k = m .k;
-      lot = m .lot;
-      counts = column (λ i. getD (m .counts) i 0) (m .k);
-      neighbours = column (λ i. getD (m .neighbours) i 0) (m .k);
-    }
+    let counts = column (λ i. getD (m .counts) i 0) (m .k) in
+    let neighbours = column (λ i. getD (m .neighbours) i 0) (m .k) in
+    record { k = m .k; lot = m .lot; counts = counts; neighbours = neighbours }
 
 -- "the bytes it fills are what reads back. Equal maps agree in k, lot and all places below k" (The line map)
 pub record RoundTrips : Type 0 where
   -- what is written reads back, whatever stands before it: the same k and lot, the same places below k, zero above
   pub written-reads : (m : Map) → Fits m → acceptance m ≡ accepted → (before : List ℕ)
-      → reading (before ++ storedOf m) ≡ acceptedAs (clearedOf m)
+      → reading (before ++ storedOf m) ≡ readAs (clearedOf m)
   -- which is a map equal to the one written
   pub cleared-equal : (m : Map) → Equal (clearedOf m) m
   -- equal maps are written the same
   pub equal-written : (m n : Map) → Equal m n → storedOf m ≡ storedOf n
   -- what is read is written back as the bytes it was read from
-  pub read-writes : (s : List ℕ) (m : Map) → ((i : ℕ) → getD s i 0 < 2 ^ 8) → reading s ≡ acceptedAs m
+  pub read-writes : (s : List ℕ) (m : Map) → ((i : ℕ) → getD s i 0 < 2 ^ 8) → reading s ≡ readAs m
       → storedOf m ≡ drop (length s - storedLength (m .k)) s

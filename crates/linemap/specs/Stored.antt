@@ -2,7 +2,8 @@
 use mathlib.Core.List.{List, _++_}
 use Prim.Native.Nat.{ℕ, _+_, _*_, _-_, _/_, _%_, _^_}
 use lib.ListN.{getD}
-use Rattle.linemap.specs.Numbers.{bytes, sumWords, each}
+use Rattle.linemap.specs.Numbers.{bytes, sumWords}
+use Rattle.finite.specs.Below.{each}
 use Rattle.linemap.specs.declared.Map.{Map}
 
 -- "k rows of 12 bytes"

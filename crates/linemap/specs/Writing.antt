@@ -4,7 +4,8 @@ use mathlib.Core.List.{List, [], _∷_, _++_}
 use Prim.Native.Nat.{ℕ}
 use lib.ListN.{length, drop}
 use lib.Dec.{leb}
-use Rattle.topology.specs.Answer.{isAccepted, unless}
+use Rattle.topology.specs.Answer.{isAccepted}
+use Rattle.finite.specs.Tests.{unless}
 use Rattle.topology.specs.Acceptance.{faultNumbers}
 use Rattle.linemap.specs.Maps.{acceptance}
 use Rattle.linemap.specs.Stored.{storedLength, storedOf}

@@ -112,16 +112,23 @@ pub fn links(m: Map) -> LinksAnswer
 
 // The last map in s.
 pub fn read(s: &[u8]) -> MapRead
-    ensures { λ r. ⌜ Reading.outcomeOf r ≡ Reading.reading (now (s .entry)) ⌝ }
+    ensures { λ r. ⌜ Reading.readOutcomeOf r ≡ Reading.reading (now (s .entry)) ⌝ }
 {
     let trailer = reading::read_trailer(s);
-    let reading::TrailerRead::Found { k, lot, start } = trailer else {
-        return reading::unread(reading::trailer_answer(trailer));
+    let reading::TrailerRead::Fields {
+        stations,
+        row_length,
+        distance,
+        lot,
+    } = trailer
+    else {
+        return reading::unread(ReadAnswer::Refused(ReadFault::Short));
     };
-    if numbers::sum_words(s, start, stored_length(k) / 4) != 0 {
-        return reading::unread(ReadAnswer::Refused(ReadFault::CheckWord));
-    }
-    reading::read_rows(s, k, lot, start)
+    let answer = reading::judge_trailer(stations, row_length, distance);
+    let ReadAnswer::Accepted = answer else {
+        return reading::unread(answer);
+    };
+    reading::read_rows(s, stations as u8, lot)
 }
 
 // The stored form of m, from the first byte of buf.

@@ -3,6 +3,7 @@ ghost use mathlib.Core.Path.{_≡_};
 ghost use Prim.Native.Nat.{_+_, _*_, _^_, _≤_, _<_};
 ghost use lib.ListN.{length};
 ghost use Rattle.linemap.specs.Numbers;
+ghost use Rattle.linemap.specs.internal.Stages;
 
 fn wide(b: u8) -> u64
     ensures { λ r. ⌜ (r ≡ b) × (r < 256) ⌝ }
@@ -27,7 +28,7 @@ pub(crate) fn get(s: &[u8], at: usize, n: usize) -> u64
 // The lowest n bytes of x, from `at`.
 pub(crate) fn put(buf: &mut [u8], at: usize, n: usize, x: u64)
     requires { ⌜ at + n ≤ length (now buf) ⌝ }
-    ensures { λ _. ⌜ now (buf .exit) ≡ Numbers.put (now (buf .entry)) at (Numbers.bytes n x) ⌝ }
+    ensures { λ _. ⌜ now (buf .exit) ≡ Stages.put (now (buf .entry)) at (Numbers.bytes n x) ⌝ }
 {
     let mut left = x;
     let mut i = 0;

@@ -6,12 +6,14 @@ ghost use mathlib.Core.Path.{_≡_};
 ghost use mathlib.Core.List.{_++_};
 ghost use Prim.Native.Nat.{_+_, _*_, _≤_};
 ghost use lib.ListN.{length};
+ghost use Rattle.finite.specs.Below;
 ghost use Rattle.linemap.specs.Numbers;
 ghost use Rattle.linemap.specs.Stored.{rowLength, storedLength, rowBytes, trailerBytes, checkWord, storedOf};
+ghost use Rattle.linemap.specs.internal.Stages;
 
 fn put_row(buf: &mut [u8], at: usize, count: u32, set: u64)
     requires { ⌜ at + rowLength ≤ length (now buf) ⌝ }
-    ensures { λ _. ⌜ now (buf .exit) ≡ Numbers.put (now (buf .entry)) at (Numbers.bytes 4 count ++ Numbers.bytes 8 set) ⌝ }
+    ensures { λ _. ⌜ now (buf .exit) ≡ Stages.put (now (buf .entry)) at (Numbers.bytes 4 count ++ Numbers.bytes 8 set) ⌝ }
 {
     put(buf, at, 4, count as u64);
     put(buf, at + 4, 8, set);
@@ -19,7 +21,7 @@ fn put_row(buf: &mut [u8], at: usize, count: u32, set: u64)
 
 fn put_rows(m: Map, buf: &mut [u8])
     requires { ⌜ (m .k ≤ 64) × (rowLength * m .k ≤ length (now buf)) ⌝ }
-    ensures { λ _. ⌜ now (buf .exit) ≡ Numbers.put (now (buf .entry)) 0 (Numbers.each (rowBytes (m .counts) (m .neighbours)) (m .k)) ⌝ }
+    ensures { λ _. ⌜ now (buf .exit) ≡ Stages.put (now (buf .entry)) 0 (Below.each (rowBytes (m .counts) (m .neighbours)) (m .k)) ⌝ }
 {
     let k = m.k as usize;
     let counts = m.counts;
@@ -34,7 +36,7 @@ fn put_rows(m: Map, buf: &mut [u8])
 // The trailer, but for the check word.
 fn put_trailer(buf: &mut [u8], k: usize, lot: u32)
     requires { ⌜ (k ≤ 64) × (storedLength k ≤ length (now buf)) ⌝ }
-    ensures { λ _. ⌜ now (buf .exit) ≡ Numbers.put (now (buf .entry)) (rowLength * k) (trailerBytes k lot) ⌝ }
+    ensures { λ _. ⌜ now (buf .exit) ≡ Stages.put (now (buf .entry)) (rowLength * k) (trailerBytes k lot) ⌝ }
 {
     let t = crate::ROW_LENGTH * k;
     put(buf, t, 2, k as u64);
@@ -53,7 +55,7 @@ fn check_word(sum: u32) -> u64
 // The stored form of m, from the first byte of buf.
 pub(crate) fn put_map(m: Map, buf: &mut [u8])
     requires { ⌜ (m .k ≤ 64) × (storedLength (m .k) ≤ length (now buf)) ⌝ }
-    ensures { λ _. ⌜ now (buf .exit) ≡ Numbers.put (now (buf .entry)) 0 (storedOf m) ⌝ }
+    ensures { λ _. ⌜ now (buf .exit) ≡ Stages.put (now (buf .entry)) 0 (storedOf m) ⌝ }
 {
     let k = m.k as usize;
     put_rows(m, buf);

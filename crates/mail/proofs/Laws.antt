@@ -14,7 +14,7 @@ use Rattle.bitset.proofs.Unions.{member-union, member-minus, member-put}
 use Rattle.mail.specs.declared.Message.the-variants.{Start, Answer}
 use Rattle.mail.specs.declared.Mailbox.{Mailbox}
 use Rattle.mail.specs.declared.Mailbox.the-variants.{Empty, Full}
-use Rattle.mail.specs.Mail.{startsOf, answersOf, sumPlace, answerOf, boxAt, withSets, withWaiting, withAnswer, withMessage, withBox, startsPosted}
+use Rattle.mail.specs.Mail.{startsOf, answersOf, sumPlace, boxAt, withSets, withWaiting, withAnswer, withMessage, withBox, startsPosted}
 
 -- ---- the lengths stay
 length-sets : (boxes : List ℕ) (s a b : ℕ) → length (withSets boxes s a b) ≡ length boxes
@@ -57,7 +57,7 @@ module _ (boxes : List ℕ) (s i : ℕ) (low : i < 128) (n : i ≡ s → ⊥) (m
 
 -- what a mailbox is, of its two tests and its sum
 abbrev held : Bool → Bool → ℕ → Mailbox
-held start answer sum = cond start (Full Start) (cond answer (Full (answerOf sum)) Empty)
+held start answer sum = cond start (Full Start) (cond answer (Full (Answer (record { sum = sum }))) Empty)
 
 -- ---- the words of a sender x after those of s are written
 module _ (boxes : List ℕ) (long : length boxes ≡ 4224) (s : ℕ) (hs : s < 64) (x : ℕ) (hx : x < 64) where
@@ -133,7 +133,7 @@ module _ (boxes : List ℕ) (long : length boxes ≡ 4224) (s : ℕ) (hs : s < 6
         rw (getD-set-other l (sumPlace s r) x v 0 (λ e. omega arith), getD-set-other l (sumPlace s r) (64 + x) v 0 (λ e. omega arith), sum)
 
     -- an answer is what its words tell, with its sum
-    box-after-answer : (v : ℕ) → boxAt (withAnswer boxes s r v) x y ≡ cond (eqb x s && eqb y r) (Full (answerOf v)) (boxAt boxes x y)
+    box-after-answer : (v : ℕ) → boxAt (withAnswer boxes s r v) x y ≡ cond (eqb x s && eqb y r) (Full (Answer (record { sum = v }))) (boxAt boxes x y)
     unfolding withAnswer withWaiting boxAt
     box-after-answer v =
         box-after-sum (withWaiting boxes s r false true) (length-waiting boxes s r false true ∙ long) v

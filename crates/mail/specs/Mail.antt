@@ -34,17 +34,12 @@ answersOf boxes s = getD boxes (64 + s) 0
 abbrev pub sumPlace : ℕ → ℕ → ℕ
 sumPlace s r = 128 + s * 64 + r
 
--- an answer with its sum
-abbrev pub answerOf : ℕ → Message
-answerOf sum = Answer (record { sum = sum })
-
 -- what the mailbox from s to r holds: "empty or holding a start or an answer with its sum". Where both wait it is the start; a sum beside no
 -- answer is not looked at.
 unfoldable pub boxAt : List ℕ → ℕ → ℕ → Mailbox
 boxAt boxes s r =
     cond (member r (startsOf boxes s)) (Full Start)
-    (cond (member r (answersOf boxes s)) (Full (answerOf (getD boxes (sumPlace s r) 0)))
-    Empty)
+    (cond (member r (answersOf boxes s)) (Full (Answer (record { sum = getD boxes (sumPlace s r) 0 }))) Empty)
 
 -- the words with other sets for s
 abbrev pub withSets : List ℕ → ℕ → ℕ → ℕ → List ℕ

@@ -14,7 +14,7 @@ use Rattle.bitset.specs.Set.{member, without}
 use Rattle.bitset.proofs.Laws.{member-without}
 use Rattle.station.specs.declared.Station.{Station}
 use Rattle.station.specs.Events.{asleep, ended}
-use Rattle.stations.specs.Stations.{outside, stationAt}
+use Rattle.stations.specs.Stations.{blank, stationAt}
 use Rattle.mail.specs.declared.Message.the-variants.{Start, Answer}
 use Rattle.mail.specs.declared.Mailbox.the-variants.{Empty, Full}
 use Rattle.mail.specs.Mail.{boxAt, withBox}
@@ -32,8 +32,8 @@ pub station-after-set : (stations : List Station) (i : ℕ) (s : Station) → i 
     → stationAt (set stations i s) x ≡ cond (eqb x i) s (stationAt stations x)
 station-after-set stations i s h x =
     by-eq x i
-    (λ e. rw (e, eq-eqb i i refl) (getD-set-same stations i s outside h))
-    (λ ne. rw (ne-eqb x i ne) (getD-set-other stations i x s outside ne))
+    (λ e. rw (e, eq-eqb i i refl) (getD-set-same stations i s blank h))
+    (λ ne. rw (ne-eqb x i ne) (getD-set-other stations i x s blank ne))
 
 module _ (boxes : List ℕ) (long : length boxes ≡ 4224) (from to : ℕ) (hf : from < 64) (ht : to < 64) (receiver : Station) where
   pub length-boxes-after : length (boxesAfter boxes from to receiver) ≡ 4224

@@ -2,12 +2,12 @@
 use mathlib.Core.Path.{_≡_, refl}
 use mathlib.Core.Bool.{true}
 use mathlib.Core.List.{[], _∷_, flatMap}
-use Rattle.finite.specs.Below.{allBelow, tabulate}
-use Rattle.bitset.specs.Set.{member, count, size, without, within, union, minus, put, bitIf}
-use Rattle.aggregate.specs.Aggregate.{rootOf, valid, bounded, nothing, gathered, joined}
+use Rattle.finite.specs.Below.{allBelow, each, tabulate}
+use Rattle.bitset.specs.Set.{member, membersBelow, size, without, within, union, minus, put, bitIf}
+use Rattle.aggregate.specs.Aggregate.{rootOf, valid, bounded, gathered, joined}
 use Rattle.station.specs.Form as form
 use Rattle.schedule.specs.Rules.{inRange, allowed}
-use Rattle.schedule.specs.Listing.{range, keepIf, select, candidates, listed, quiescent, isEmpty, step}
+use Rattle.schedule.specs.Listing.{range, select, candidates, listed, quiescent, isEmpty, step}
 use Rattle.schedule.specs.Listing as listing
 use Rattle.schedule.specs.Outcome.{RunOutcome}
 use Rattle.schedule.specs.Draws.{stepOn, picked, drawOn, runMade, runNet, stopped, runOn}
@@ -17,7 +17,7 @@ use Rattle.mail.specs.declared.Mailbox.the-variants.{Empty, Full}
 use Rattle.mailbox.specs.Net.{Net, station, areBounded, wellFormed, freshNet}
 use Rattle.mail.specs.Mail.{boxAt, startsPosted, withBox, withMessage, withAnswer, withWaiting}
 use Rattle.mailbox.specs.Delivery.{boxesAfter, boxesSettled, delivered, reported}
-use Rattle.mailbox.specs.Rules.{delivery, report, mayStep, applied, rules}
+use Rattle.mailbox.specs.Rules.{delivery, report, mayStep, netAfter, rules}
 
 abbrev pair : Net
 pair = freshNet (record { k = 2 }) (3 ∷ 4 ∷ []) (2 ∷ 1 ∷ [])
@@ -26,11 +26,11 @@ abbrev triangle : Net
 triangle = freshNet (record { k = 3 }) (5 ∷ 7 ∷ 11 ∷ []) (6 ∷ 5 ∷ 3 ∷ [])
 
 first-steps : listed rules triangle ≡ step delivery 0 1 ∷ step delivery 0 2 ∷ []
-unfolding listed select keepIf candidates range listing.count flatMap allowed inRange mayStep freshNet freshStations freshStation tabulate boxAt withBox withMessage withAnswer withWaiting put bitIf startsPosted union minus member count size rootOf nothing gathered
+unfolding listed select candidates range listing.numbersFrom flatMap allowed inRange mayStep freshNet freshStations freshStation tabulate each boxAt withBox withMessage withAnswer withWaiting put bitIf startsPosted union minus member membersBelow size rootOf gathered
 first-steps = refl
 
 too-early : stepOn rules triangle (step report 0 0) .number ≡ 13
-unfolding stepOn wellFormed areWellFormed areBounded form.wellFormed allBelow inRange mayStep freshNet freshStations freshStation tabulate boxAt withBox withMessage withAnswer withWaiting put bitIf startsPosted union minus member count size within rootOf valid bounded nothing gathered
+unfolding stepOn wellFormed areWellFormed areBounded form.wellFormed allBelow inRange mayStep freshNet freshStations freshStation tabulate each boxAt withBox withMessage withAnswer withWaiting put bitIf startsPosted union minus member membersBelow size within rootOf valid bounded gathered
 too-early = refl
 
 -- station 1 wakes: its set stays, it waits for station 2, and posts a start to it and none to its parent
@@ -39,12 +39,12 @@ woken = stepOn rules triangle (step delivery 0 1) .net
 
 wake-posts : (station woken 1 ≡ record { held = record { sum = 7 }; unstarted = 5; parent = 0; waits = 1; state = 1 })
     × (boxAt (woken .boxes) 0 1 ≡ Empty) × (boxAt (woken .boxes) 1 2 ≡ Full Start) × (boxAt (woken .boxes) 1 0 ≡ Empty)
-unfolding stepOn wellFormed areWellFormed areBounded form.wellFormed allBelow inRange mayStep applied delivered boxesSettled boxesAfter freshNet freshStations freshStation tabulate boxAt withBox withMessage withAnswer withWaiting put bitIf startsPosted union minus member count size without within rootOf valid bounded nothing gathered
+unfolding stepOn wellFormed areWellFormed areBounded form.wellFormed allBelow inRange mayStep netAfter delivered boxesSettled boxesAfter freshNet freshStations freshStation tabulate each boxAt withBox withMessage withAnswer withWaiting put bitIf startsPosted union minus member membersBelow size without within rootOf valid bounded gathered
 wake-posts = (refl, refl, refl, refl)
 
 -- a station with no other neighbour answers as it wakes
 answers-at-once : boxAt (stepOn rules pair (step delivery 0 1) .net .boxes) 1 0 ≡ Full (Answer (record { sum = 4 }))
-unfolding stepOn wellFormed areWellFormed areBounded form.wellFormed allBelow inRange mayStep applied delivered boxesSettled boxesAfter freshNet freshStations freshStation tabulate boxAt withBox withMessage withAnswer withWaiting put bitIf startsPosted union minus member count size without within rootOf valid bounded nothing gathered
+unfolding stepOn wellFormed areWellFormed areBounded form.wellFormed allBelow inRange mayStep netAfter delivered boxesSettled boxesAfter freshNet freshStations freshStation tabulate each boxAt withBox withMessage withAnswer withWaiting put bitIf startsPosted union minus member membersBelow size without within rootOf valid bounded gathered
 answers-at-once = refl
 
 -- eight draws: 23 after seven steps, and nothing is left to draw
@@ -52,5 +52,5 @@ abbrev whole-run : RunOutcome Net
 whole-run = runOn rules triangle (0 ∷ 0 ∷ 0 ∷ 0 ∷ 0 ∷ 0 ∷ 0 ∷ 0 ∷ [])
 
 total : (whole-run .steps ≡ 7) × (whole-run .rest ≡ true) × (station (whole-run .net) 0 .held ≡ record { sum = 23 }) × (drawOn rules (whole-run .net) 0 .number ≡ 14)
-unfolding runOn runMade runNet stopped drawOn picked listed quiescent isEmpty select keepIf candidates range listing.count flatMap allowed wellFormed areWellFormed areBounded form.wellFormed allBelow inRange mayStep applied delivered reported boxesSettled boxesAfter freshNet freshStations freshStation tabulate boxAt withBox withMessage withAnswer withWaiting put bitIf startsPosted union minus member count size without within rootOf valid bounded nothing gathered joined
+unfolding runOn runMade runNet stopped drawOn picked listed quiescent isEmpty select candidates range listing.numbersFrom flatMap allowed wellFormed areWellFormed areBounded form.wellFormed allBelow inRange mayStep netAfter delivered reported boxesSettled boxesAfter freshNet freshStations freshStation tabulate each boxAt withBox withMessage withAnswer withWaiting put bitIf startsPosted union minus member membersBelow size without within rootOf valid bounded gathered joined
 total = (refl, refl, refl, refl)

@@ -19,17 +19,17 @@ use Rattle.aggregate.specs.declared.Config.{Config}
 use Rattle.aggregate.specs.Aggregate.{rootOf}
 use Rattle.station.specs.declared.Station.{Station}
 use Rattle.station.specs.Events.{asleep}
-use Rattle.stations.specs.Stations.{outside}
+use Rattle.stations.specs.Stations.{blank}
 use Rattle.schedule.specs.declared.Step.{Step}
 use Rattle.schedule.specs.declared.rows.Sizes.{Sizes}
-use Rattle.schedule.specs.Rows.{others}
+use Rattle.schedule.specs.internal.Rows.{others}
 use Rattle.schedule.proofs.Resizing.{rows-anew}
 use Rattle.mail.specs.declared.Mailbox.the-variants.{Empty}
 use Rattle.mail.specs.Mail.{startsOf, answersOf, withBox}
 use Rattle.mail.proofs.Laws.{word-box, word-starts}
 use Rattle.mailbox.specs.declared.listing.Takers.{Takers}
 use Rattle.mailbox.specs.Delivery.{mustAnswer, boxesAfter, boxesSettled}
-use Rattle.mailbox.specs.Receivers.{rootReports, deliverable, receiversOf, HoldReceivers, all, rowsAnew, sizesAnew, boxesMade}
+use Rattle.mailbox.specs.internal.Receivers.{rootReports, deliverable, receiversOf, HoldReceivers, all, rowsAnew, sizesAnew, boxesMade}
 use Rattle.mailbox.specs.Rules.{delivery, report}
 
 -- ---- a sender's rows, stored anew
@@ -85,7 +85,7 @@ module _ (t : Config) (takers : Takers) (stations : List Station) (boxes : List 
       let answers = word-made t boxes s receiver (64 + x) (omega arith) (λ e. omega arith) (λ e. n (omega arith)) (λ e. omega arith) (λ e. m (omega arith)) in
       by-eq x (rootOf t)
       (λ (e : x ≡ rootOf t).
-      let root : getD stations′ (rootOf t) outside ≡ getD stations (rootOf t) outside = getD-set-other stations (s .receiver) (rootOf t) next outside (λ q. m (e ∙ q)) in
+      let root : getD stations′ (rootOf t) blank ≡ getD stations (rootOf t) blank = getD-set-other stations (s .receiver) (rootOf t) next blank (λ q. m (e ∙ q)) in
       rw (starts, answers, root))
       (λ q. rw (starts, answers, ne-eqb x (rootOf t) q))
 

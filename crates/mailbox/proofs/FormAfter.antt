@@ -22,7 +22,7 @@ use Rattle.schedule.specs.declared.Step.{Step}
 use Rattle.schedule.specs.Rules.{allowed}
 use Rattle.schedule.proofs.Listing.{range-bounds}
 use Rattle.schedule.proofs.Answers.{allowed-parts}
-use Rattle.stations.specs.Stations.{outside, stationAt, areWellFormed}
+use Rattle.stations.specs.Stations.{blank, stationAt, areWellFormed}
 use Rattle.stations.proofs.Laws.{replaced-bounded}
 use Rattle.mail.specs.declared.Message.the-variants.{Start, Answer}
 use Rattle.mail.specs.declared.Mailbox.{Mailbox}
@@ -31,8 +31,8 @@ use Rattle.mail.specs.Mail.{mailboxBounded, boxAt, withBox, startsPosted}
 use Rattle.mail.proofs.Laws.{length-starts, length-box, box-after-starts, box-after}
 use Rattle.mailbox.specs.Net.{Net, station, areBounded, wellFormed}
 use Rattle.mailbox.specs.Delivery.{takesFrom, awakened, taken, boxesAfter, boxesSettled, boxesDelivered, mustAnswer, delivered, reported}
-use Rattle.mailbox.specs.Rules.{delivery, applied, rules}
-use Rattle.mailbox.specs.Receivers.{receiverMade, boxesMade}
+use Rattle.mailbox.specs.Rules.{delivery, netAfter, rules}
+use Rattle.mailbox.specs.internal.Receivers.{receiverMade, boxesMade}
 use Rattle.mailbox.proofs.Laws.{form-parts, k-most, formed-at, bounded-at, posted-bounded, taken-parent, delivery-may, places}
 
 -- a mailbox after a delivery is as it was, empty, or holds a start
@@ -77,13 +77,13 @@ length-made t boxes s receiver =
 
 -- an allowed step, in the two parts that the code makes
 pub applied-is : (net : Net) (s : Step) → let r = station net (s .receiver) in
-    applied net s
+    netAfter net s
     ≡ record {
       config = net .config;
       stations = set (net .stations) (s .receiver) (receiverMade (net .config) (net .boxes) s r);
       boxes = boxesMade (net .config) (net .boxes) s r;
     }
-unfolding applied delivered reported
+unfolding netAfter delivered reported
 applied-is net s = by-bool (eqb (s .kind) delivery) (λ e. rw e) (λ e. rw e)
 
 -- the mailbox from x to y is bounded, if it is one of two different stations
@@ -201,9 +201,9 @@ module _ (net : Net) (long : length (net .boxes) ≡ 4224) (f : wellFormed net �
     bounded-after s same h =
         let stations = net .stations in
         by-bool (ltb to (length stations))
-        (λ m. rw (← same) (sym (ap (λ (x : Station). bounded t (x .held)) (getD-set-same stations to s outside (ltb-true to (length stations) m))) ∙ h))
+        (λ m. rw (← same) (sym (ap (λ (x : Station). bounded t (x .held)) (getD-set-same stations to s blank (ltb-true to (length stations) m))) ∙ h))
         (λ m.
-        let none : station net to ≡ outside = List·getD-eq-default stations outside (ltb-false to (length stations) m) in
+        let none : station net to ≡ blank = List·getD-eq-default stations blank (ltb-false to (length stations) m) in
         let idle : eqb (station net to .state) active ≡ false = ap (λ (x : Station). eqb (x .state) active) none in
         ap (bounded t) (taken-holds t from (boxAt (net .boxes) from to) (station net to) takes idle) ∙ facts t to (station net to) formed .held-bounded)
 
@@ -227,7 +227,7 @@ module _ (net : Net) (long : length (net .boxes) ≡ 4224) (f : wellFormed net �
 -- the form after an allowed step
 formed-after : (net : Net) (s : Step) → length (net .boxes) ≡ 4224 → wellFormed net ≡ true → allowed rules net s ≡ true
     → wellFormed (rules .apply net s) ≡ bounded (rules .apply net s .config) (station (rules .apply net s) (s .receiver) .held)
-unfolding applied
+unfolding netAfter
 formed-after net s long f a =
     let p = allowed-parts rules net s a in
     let b = range-bounds rules net s (p .0) in

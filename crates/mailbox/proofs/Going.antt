@@ -9,17 +9,19 @@ use lib.Seq.{getD-set-same, getD-set-other}
 use lib.Dec.{eqb}
 use Rattle.refusal.specs.declared.Refusal.the-variants.{OutOfForm}
 use Rattle.refusal.specs.Refusal.{numberOf}
-use Rattle.bitset.specs.Set.{setOf, put}
+use Rattle.bitset.specs.Set.{put}
+use Rattle.bitset.specs.internal.Selected.{setOf}
 use Rattle.bitset.proofs.Unions.{put-set}
 use Rattle.aggregate.specs.Aggregate.{rootOf, bounded}
 use Rattle.station.specs.declared.Station.{Station}
-use Rattle.stations.specs.Stations.{stationAt, outside}
+use Rattle.stations.specs.Stations.{stationAt, blank}
 use Rattle.schedule.specs.declared.Step.{Step}
 use Rattle.schedule.specs.declared.rows.Drawn.{Drawn}
 use Rattle.schedule.specs.declared.rows.Drawn.the-variants as drawn
 use Rattle.schedule.specs.declared.rows.Sizes.{Sizes}
 use Rattle.schedule.specs.Rules.{allowed}
-use Rattle.schedule.specs.Rows.{Filled, pickedBySize, totalOf, others}
+use Rattle.schedule.specs.Rows.{pickedBySize, totalOf}
+use Rattle.schedule.specs.internal.Rows.{Filled, others}
 use Rattle.schedule.specs.Draws.{runOn}
 use Rattle.schedule.proofs.Answers.{allowed-parts}
 use Rattle.schedule.proofs.Listing.{range-bounds, Bounds}
@@ -29,8 +31,8 @@ use Rattle.mail.specs.Mail.{mailboxBounded, boxAt}
 use Rattle.mailbox.specs.declared.Line.{Line}
 use Rattle.mailbox.specs.declared.listing.Takers.{Takers}
 use Rattle.mailbox.specs.Net.{Net, netOf, station, wellFormed}
-use Rattle.mailbox.specs.Receivers.{takesStart, takesAnswer, rootReports, takersOf, retaken, HoldReceivers, all, receiverMade, boxesMade}
-use Rattle.mailbox.specs.Rules.{delivery, applied, rules}
+use Rattle.mailbox.specs.internal.Receivers.{takesStart, takesAnswer, rootReports, takersOf, retaken, HoldReceivers, all, receiverMade, boxesMade}
+use Rattle.mailbox.specs.Rules.{delivery, netAfter, rules}
 use Rattle.mailbox.proofs.Laws.{k-most, root-placed}
 use Rattle.mailbox.proofs.RowSets.{filled}
 use Rattle.mailbox.proofs.Following.{others-hold}
@@ -51,8 +53,8 @@ unfolding retaken takersOf
 retaken-is k few stations full j low s =
     let anew : (test : Station → Bool) → put j (test s) (setOf k (λ i. test (stationAt stations i))) ≡ setOf k (λ i. test (stationAt (set stations j s) i)) =
     λ test. put-set k j (test s) _ _ few low
-    (ap test (getD-set-same stations j s outside (omega (arith, full, low, few))))
-    (λ i n. ap test (getD-set-other stations j i s outside n)) in
+    (ap test (getD-set-same stations j s blank (omega (arith, full, low, few))))
+    (λ i n. ap test (getD-set-other stations j i s blank n)) in
     ap₂ (λ (starts answers : ℕ). record { starts = starts; answers = answers }) (anew takesStart) (anew takesAnswer)
 
 -- the stations with one written anew
@@ -108,14 +110,14 @@ module _ {first : Line} {words draws : List ℕ} {here : Line} {boxes : List ℕ
         abbrev there : Line
         there = placed here (s .receiver) next
 
-        made-is : netOf there boxes′ ≡ applied net s
+        made-is : netOf there boxes′ ≡ netAfter net s
         made-is = rw (u, v) (sym (applied-is net s))
 
         decides : wellFormed (netOf there boxes′) ≡ bounded (here .config) (next .held)
         decides =
             next-formed net s (G .long) formed may made-is
             ∙ ap (λ (x : Station). bounded (here .config) (x .held))
-            (getD-set-same (here .stations) (s .receiver) next outside (omega (arith, G .full, receiver-low)))
+            (getD-set-same (here .stations) (s .receiver) next blank (omega (arith, G .full, receiver-low)))
 
         -- the rows as `follow` asks for them
         pub others-held : HoldReceivers (others s) (here .config .k) (rootOf (here .config)) takers (rootReports (here .config) (there .stations)) boxes′ rows z

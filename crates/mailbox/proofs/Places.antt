@@ -12,7 +12,7 @@ use Rattle.finite.proofs.Cases.{clash, by-bool, by-eq, by-sum, and-both}
 use Rattle.bitset.specs.Set.{member}
 use Rattle.bitset.proofs.Laws.{within-member}
 use Rattle.aggregate.specs.Aggregate.{rootOf}
-use Rattle.wave.specs.Claim.{Runs, reached}
+use Rattle.wave.specs.internal.Claim.{Runs, reached}
 use Rattle.station.specs.declared.Station.{Station}
 use Rattle.station.specs.Events.{asleep}
 use Rattle.station.proofs.Formed.{WellFormed}
@@ -23,7 +23,7 @@ use Rattle.schedule.proofs.Made.{Listed, calls-make}
 use Rattle.mail.specs.Mail.{boxAt}
 use Rattle.mailbox.specs.Net.{Net, station, wellFormed}
 use Rattle.mailbox.specs.Delivery.{mustAnswer, delivered, reported}
-use Rattle.mailbox.specs.Rules.{delivery, applied, rules}
+use Rattle.mailbox.specs.Rules.{delivery, netAfter, rules}
 use Rattle.schedule.proofs.Answers.{allowed-parts}
 use Rattle.mailbox.proofs.Laws.{k-most, formed-at, places, taken-parent, delivery-may}
 use Rattle.mailbox.proofs.Delivered.{Shaped, receiver, delivered-config, delivered-shaped, station-after-delivery, box-after-delivery, reported-shaped, station-after-report}
@@ -117,8 +117,8 @@ report-keeps net shaped root low below =
     }
 
 -- a step that is made
-step-keeps : (net : Net) → Shaped net → (s : Step) → Listed rules net s → Keeps net (applied net s) × Shaped (applied net s)
-unfolding applied
+step-keeps : (net : Net) → Shaped net → (s : Step) → Listed rules net s → Keeps net (netAfter net s) × Shaped (netAfter net s)
+unfolding netAfter
 step-keeps net shaped s listed =
     let f = listed .0 in
     let both = allowed-parts rules net s (listed-allowed rules net s (listed .1)) in
@@ -147,7 +147,7 @@ steps-keep : (steps : List Step) (net : Net) → Shaped net → Runs (Listed rul
 steps-keep [] net shaped runs = record { config = refl; stations = λ x past. refl; boxes = λ x y hx hy u. refl }
 steps-keep (s ∷ l) net shaped runs =
     let one = step-keeps net shaped s (runs .0) in
-    keeps-then net (applied net s) (reached (rules .apply) (applied net s) l) (one .0) (steps-keep l (applied net s) (one .1) (runs .1))
+    keeps-then net (netAfter net s) (reached (rules .apply) (netAfter net s) l) (one .0) (steps-keep l (netAfter net s) (one .1) (runs .1))
 
 -- "Places past k are untouched" (document 01, Causes and numbers), by any list of steps, draws and runs
 pub calls-keep : (net : Net) (calls : List Call) → Shaped net → Keeps net (callsNet rules net calls)

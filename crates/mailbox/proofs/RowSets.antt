@@ -11,7 +11,8 @@ use lib.Dec.{eqb, ltb}
 use lib.Pow.{pow-mono}
 use borrow.Author.Tests.{ne-eqb, lt-ltb, ltb-true}
 use Rattle.finite.proofs.Cases.{by-bool, by-eq}
-use Rattle.bitset.specs.Set.{member, bitIf, setOf}
+use Rattle.bitset.specs.Set.{member, bitIf}
+use Rattle.bitset.specs.internal.Selected.{setOf}
 use Rattle.bitset.proofs.Laws.{same-members, member-without, without-le}
 use Rattle.bitset.proofs.Selected.{set-lt, set-has, member-and}
 use Rattle.aggregate.specs.declared.Aggregate.{Aggregate}
@@ -21,7 +22,7 @@ use Rattle.station.specs.Events.{asleep, active}
 use Rattle.schedule.specs.Rules.{inRange, allowed}
 use Rattle.schedule.specs.Listing.{step}
 use Rattle.schedule.specs.declared.rows.Sizes.{Sizes}
-use Rattle.schedule.specs.Rows.{Filled}
+use Rattle.schedule.specs.internal.Rows.{Filled}
 use Rattle.schedule.proofs.RowLists.{no-row, report-row}
 use Rattle.mail.specs.declared.Message.the-variants.{Start, Answer}
 use Rattle.mail.specs.declared.Mailbox.the-variants.{Empty, Full}
@@ -30,7 +31,7 @@ use Rattle.bitset.proofs.Unions.{member-union, union-lt}
 use Rattle.mailbox.specs.Net.{Net, station}
 use Rattle.mailbox.specs.declared.listing.Takers.{Takers}
 use Rattle.mailbox.specs.Delivery.{takesFrom, mayDeliver, mayReport}
-use Rattle.mailbox.specs.Receivers.{takesStart, takesAnswer, rootReports, takersOf, deliverable, receiversOf, HoldReceivers, all}
+use Rattle.mailbox.specs.internal.Receivers.{takesStart, takesAnswer, rootReports, takersOf, deliverable, receiversOf, HoldReceivers, all}
 use Rattle.mailbox.specs.Rules.{delivery, report, mayStep, rules}
 
 -- a delivery's tests: as its set has them, and as its guard

@@ -32,8 +32,7 @@ mayDeliver from to receiver box = not (eqb from to) && takesFrom receiver box
 
 -- "On waking, the receiver's parent is the sender, waits are its neighbours less one"; "neighbour sets stay"
 abbrev pub awakened : ℕ → Station → Station
-awakened from s =
-    record { held = s .held; unstarted = s .unstarted; parent = from; waits = size (s .unstarted) - 1; state = active }
+awakened from s = record { held = s .held; unstarted = s .unstarted; parent = from; waits = size (s .unstarted) - 1; state = active }
 
 -- "either makes an active receiver's waits less one, and an answer's sum is added"
 abbrev pub messageTaken : Config → ℕ → Message → Station → Station
@@ -48,9 +47,8 @@ taken t from (Full m) s = messageTaken t from m s
 -- a delivery "empties it"; on waking the receiver "posts a start to every neighbour but the parent"
 unfoldable pub boxesAfter : List ℕ → ℕ → ℕ → Station → List ℕ
 boxesAfter boxes from to receiver =
-    cond (eqb (receiver .state) asleep)
-    (startsPosted (withBox boxes from to Empty) to (without from (receiver .unstarted)))
-    (withBox boxes from to Empty)
+    let emptied = withBox boxes from to Empty in
+    cond (eqb (receiver .state) asleep) (startsPosted emptied to (without from (receiver .unstarted))) emptied
 
 -- "After any delivery, a receiver other than 0 with waits zero posts its sum as an answer to its parent and is finished"
 abbrev pub mustAnswer : Config → ℕ → Station → Bool
@@ -70,17 +68,14 @@ receiverAfter t boxes from to receiver = settled t to (taken t from (boxAt boxes
 
 -- the mailboxes after a delivery
 abbrev pub boxesDelivered : Config → List ℕ → ℕ → ℕ → Station → List ℕ
-boxesDelivered t boxes from to receiver =
-    boxesSettled t (boxesAfter boxes from to receiver) to (taken t from (boxAt boxes from to) receiver)
+boxesDelivered t boxes from to receiver = boxesSettled t (boxesAfter boxes from to receiver) to (taken t from (boxAt boxes from to) receiver)
 
 -- the net after a delivery
 unfoldable pub delivered : Net → ℕ → ℕ → Net
 delivered net from to =
-    record {
-      config = net .config;
-      stations = set (net .stations) to (receiverAfter (net .config) (net .boxes) from to (station net to));
-      boxes = boxesDelivered (net .config) (net .boxes) from to (station net to);
-    }
+    let after = receiverAfter (net .config) (net .boxes) from to (station net to) in
+    let boxes = boxesDelivered (net .config) (net .boxes) from to (station net to) in
+    record { config = net .config; stations = set (net .stations) to after; boxes = boxes }
 
 -- "Report: desk active, waits zero; it becomes finished"
 abbrev pub mayReport : Station → Bool
@@ -88,5 +83,4 @@ mayReport root = eqb (root .state) active && eqb (root .waits) 0
 
 -- "it becomes finished"
 unfoldable pub reported : Net → ℕ → Net
-reported net root =
-    record { config = net .config; stations = set (net .stations) root (ended (station net root)); boxes = net .boxes }
+reported net root = record { config = net .config; stations = set (net .stations) root (ended (station net root)); boxes = net .boxes }

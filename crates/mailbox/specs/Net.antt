@@ -38,8 +38,4 @@ wellFormed net = areWellFormed (net .config) (net .stations) && areBounded (net 
 -- "Fresh as above, with a start from the desk in each neighbour's box and all other boxes empty"
 unfoldable pub freshNet : Config → List ℕ → List ℕ → Net
 freshNet t counts neighbours =
-    record {
-      config = t;
-      stations = freshStations t counts neighbours;
-      boxes = startsPosted noMail (rootOf t) (getD neighbours (rootOf t) 0);
-    }
+    record { config = t; stations = freshStations t counts neighbours; boxes = startsPosted noMail (rootOf t) (getD neighbours (rootOf t) 0) }

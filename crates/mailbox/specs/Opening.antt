@@ -14,9 +14,9 @@ abbrev pub freshOn : Map → Net
 freshOn m = freshNet (configOf m) (m .counts) (m .neighbours)
 
 -- the stations handed back with a refusal: none
-abbrev pub unopened : Line
-unopened = record { config = record { k = 0 }; stations = replicate 64 blank }
+abbrev pub emptyLine : Line
+emptyLine = record { config = record { k = 0 }; stations = replicate 64 blank }
 
 -- "a map handed over goes 3, 7 to 10" (Causes and numbers); a refusal leaves the mailboxes as they were
-abbrev pub opening : Map → List ℕ → Opening Net
-opening m boxes = openingBy freshOn (netOf unopened boxes) m
+abbrev pub mailboxOpening : Map → List ℕ → Opening Net
+mailboxOpening m boxes = openingBy freshOn (netOf emptyLine boxes) m

@@ -20,30 +20,20 @@ delivery = 1
 abbrev pub report : ℕ
 report = 2
 
--- "kind not .. (mail: 1 or 2)": how many kinds there are (Causes and numbers)
-abbrev pub kinds : ℕ
-kinds = 2
-
 -- number 13: a step, its receiver, and what is in the mailbox from its sender to it
 unfoldable pub mayStep : Step → Station → Mailbox → Bool
 mayStep s receiver box =
     cond (eqb (s .kind) delivery) (mayDeliver (s .sender) (s .receiver) receiver box)
-    (cond (eqb (s .kind) report) (mayReport receiver)
-    false)
+    (cond (eqb (s .kind) report) (mayReport receiver) false)
 
 -- the net after a delivery or a report
-unfoldable pub applied : Net → Step → Net
-applied net s = cond (eqb (s .kind) delivery) (delivered net (s .sender) (s .receiver)) (reported net (s .receiver))
+unfoldable pub netAfter : Net → Step → Net
+netAfter net s = cond (eqb (s .kind) delivery) (delivered net (s .sender) (s .receiver)) (reported net (s .receiver))
 
--- the kind of net: what `schedule` asks of one
+-- the kind of net: "kind not .. (mail: 1 or 2)", and what else `schedule` asks of one
 abbrev pub rules : Rules Net
 rules =
-    record {
-      kinds = kinds;
-      reports = report;
-      stations = λ net. net .config .k;
-      root = λ net. rootOf (net .config);
-      wellFormed = wellFormed;
-      guard = λ net s. mayStep s (station net (s .receiver)) (boxAt (net .boxes) (s .sender) (s .receiver));
-      apply = applied;
-    }
+    let k : Net → ℕ = λ net. net .config .k in
+    let root : Net → ℕ = λ net. rootOf (net .config) in
+    let guard : Net → Step → Bool = λ net s. mayStep s (station net (s .receiver)) (boxAt (net .boxes) (s .sender) (s .receiver)) in
+    record { kinds = 2; reports = report; stations = k; root = root; wellFormed = wellFormed; guard = guard; apply = netAfter }

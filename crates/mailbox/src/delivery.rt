@@ -14,11 +14,11 @@ ghost use Rattle.aggregate.specs.Aggregate.{rootOf, bounded};
 ghost use Rattle.schedule.specs.Rules.{stepInRange};
 ghost use Rattle.mail.specs.Mail.{mailboxBounded, boxAt};
 ghost use Rattle.mailbox.specs.Delivery.{takesFrom, mayDeliver, mayReport, awakened, taken, mustAnswer, receiverAfter, boxesDelivered};
-ghost use Rattle.mailbox.specs.Rules.{kinds, delivery, report, mayStep};
-ghost use Rattle.mailbox.specs.Receivers.{receiverMade, boxesMade};
+ghost use Rattle.mailbox.specs.Rules.{delivery, report, mayStep};
+ghost use Rattle.mailbox.specs.internal.Receivers.{receiverMade, boxesMade};
 
 pub(crate) fn is_in_range(t: Config, step: Step) -> bool
-    ensures { λ r. ⌜ r ≡ stepInRange kinds report (t .k) (rootOf t) step ⌝ }
+    ensures { λ r. ⌜ r ≡ stepInRange 2 report (t .k) (rootOf t) step ⌝ }
 {
     stations::is_in_range(KINDS, REPORT, t.k, aggregate::root(t), step)
 }

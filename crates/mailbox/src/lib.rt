@@ -20,7 +20,7 @@ ghost use Rattle.aggregate.specs.Aggregate.{rootOf};
 ghost use Rattle.refusal.specs.Refusal.{numberOf};
 ghost use Rattle.refusal.specs.declared.Refusal.the-variants.{OutOfForm};
 ghost use Rattle.linemap.specs.Openings.{openingOf};
-ghost use Rattle.schedule.specs.Outcome.{refused, outcomeOf, runOutcomeOf};
+ghost use Rattle.schedule.specs.Outcome.{stepRefused, stepOutcomeOf, runOutcomeOf};
 ghost use Rattle.schedule.specs.Draws.{stepOn, drawOn, runOn};
 ghost use Rattle.mail.specs.Mail.{mailboxBounded, boxAt};
 ghost use Rattle.mailbox.specs.Net.{netOf, areBounded, wellFormed, freshNet};
@@ -66,7 +66,7 @@ pub struct Opened {
 
 // No stations.
 fn unopened() -> Line
-    ensures { λ r. ⌜ r ≡ Opening.unopened ⌝ }
+    ensures { λ r. ⌜ r ≡ Opening.emptyLine ⌝ }
 {
     let none = stations::blank();
     let stations = [none; 64];
@@ -93,7 +93,7 @@ fn fresh_net(t: Config, counts: [u32; 64], neighbours: [u64; 64], boxes: &mut [u
 
 // The fresh net of an accepted map; any other opens none, and leaves the mailboxes as they were.
 pub fn fresh(m: Map, boxes: &mut [u64; 4224]) -> Opened
-    ensures { λ r. ⌜ openingOf (r .verdict) (netOf (r .line) (now (boxes .exit))) ≡ Opening.opening m (now (boxes .entry)) ⌝ }
+    ensures { λ r. ⌜ openingOf (r .verdict) (netOf (r .line) (now (boxes .exit))) ≡ Opening.mailboxOpening m (now (boxes .entry)) ⌝ }
 {
     let verdict = linemap::accept(m);
     if let Verdict::Refused(fault) = verdict {
@@ -163,7 +163,7 @@ fn is_well_formed(line: Line, boxes: &[u64; 4224]) -> bool
 
 // A refusal hands the stations back as they were, whatever the mailboxes hold.
 fn refuse(line: Line, why: Refusal) -> Stepped
-    ensures { λ r. ⌜ ((boxes : List ℕ) → outcomeOf (r .answer) (netOf (r .line) boxes) ≡ refused why (netOf line boxes)) ⌝ }
+    ensures { λ r. ⌜ ((boxes : List ℕ) → stepOutcomeOf (r .answer) (netOf (r .line) boxes) ≡ stepRefused why (netOf line boxes)) ⌝ }
 {
     Stepped {
         answer: Answer::Refused(why),
@@ -173,7 +173,7 @@ fn refuse(line: Line, why: Refusal) -> Stepped
 
 // One step: refused by 11, 12 or 13, or made.
 pub fn step(line: Line, boxes: &mut [u64; 4224], step: Step) -> Stepped
-    ensures { λ r. ⌜ outcomeOf (r .answer) (netOf (r .line) (now (boxes .exit))) ≡ stepOn rules (netOf line (now (boxes .entry))) step ⌝ }
+    ensures { λ r. ⌜ stepOutcomeOf (r .answer) (netOf (r .line) (now (boxes .exit))) ≡ stepOn rules (netOf line (now (boxes .entry))) step ⌝ }
 {
     if !is_well_formed(line, boxes) {
         return refuse(line, Refusal::OutOfForm);
@@ -199,7 +199,7 @@ pub fn step(line: Line, boxes: &mut [u64; 4224], step: Step) -> Stepped
 
 // The step that a draw picks, made: refused by 11, or by 14 where no step is allowed.
 pub fn draw(line: Line, boxes: &mut [u64; 4224], d: u16) -> Stepped
-    ensures { λ r. ⌜ outcomeOf (r .answer) (netOf (r .line) (now (boxes .exit))) ≡ drawOn rules (netOf line (now (boxes .entry))) d ⌝ }
+    ensures { λ r. ⌜ stepOutcomeOf (r .answer) (netOf (r .line) (now (boxes .exit))) ≡ drawOn rules (netOf line (now (boxes .entry))) d ⌝ }
 {
     if !is_well_formed(line, boxes) {
         return refuse(line, Refusal::OutOfForm);

@@ -10,8 +10,8 @@ ghost use mathlib.Core.Path.{_≡_};
 ghost use Prim.Native.Nat.{_≤_, _<_};
 ghost use lib.ListN.{length};
 ghost use Rattle.aggregate.specs.Aggregate.{rootOf};
-ghost use Rattle.schedule.specs.Rows.{others};
-ghost use Rattle.mailbox.specs.Receivers as Rules;
+ghost use Rattle.schedule.specs.internal.Rows.{others};
+ghost use Rattle.mailbox.specs.internal.Receivers as Rules;
 
 // The stations that take a start, and those that take an answer.
 pub(crate) struct Takers {

@@ -7,25 +7,26 @@ use lib.Dec.{leb, eqb}
 use lib.ListN.{length}
 use Rattle.finite.proofs.Cases.{clash, by-bool}
 use Rattle.topology.specs.declared.Fault.the-variants.{Stations}
-use Rattle.topology.specs.Answer.{accepted, isAccepted, unless}
-use Rattle.topology.specs.Acceptance.{isStationCount}
+use Rattle.topology.specs.Answer.{accepted, isAccepted}
+use Rattle.finite.specs.Tests.{unless}
+use Rattle.bitset.specs.Set.{isStationCount}
 use Rattle.linemap.specs.declared.Map.{Map}
 use Rattle.linemap.specs.declared.ReadFault.{ReadFault}
 use Rattle.linemap.specs.declared.ReadFault.the-variants.{Short, RowLength, Distance, Rows, CheckWord, Unfit}
 use Rattle.linemap.specs.Maps.{acceptance}
 use Rattle.linemap.specs.Numbers.{sumWords}
 use Rattle.linemap.specs.Stored.{rowLength, trailerLength, storedLength, wordCount}
-use Rattle.linemap.specs.Reading.{Outcome, refused, acceptedAs, stationsIn, rowLengthIn, distanceIn, lotIn, startIn, mapAt, judged, reading}
+use Rattle.linemap.specs.Reading.{ReadOutcome, readRefused, readAs, stationsIn, rowLengthIn, distanceIn, lotIn, startIn, mapAt, judged, reading}
 use Rattle.linemap.proofs.Answers.{read-fault-refuses}
 use Rattle.linemap.proofs.Accepted.{read-accepted}
 use Rattle.opening.specs.declared.OpenFault.the-variants.{TooLong, Odd}
-use Rattle.opening.specs.Opening.{openFaultNumbers, unopened, mostBytes, bytesBefore, opening}
+use Rattle.opening.specs.Opening.{openFaultNumbers, openRefused, mostBytes, bytesBefore, inputOpening}
 
 -- an outcome that no number refuses is that of an accepted map
-abbrev Sound : Outcome → Type 0
-Sound o = isAccepted (o .numbers) ≡ true → o ≡ acceptedAs (o .map)
+abbrev Sound : ReadOutcome → Type 0
+Sound o = isAccepted (o .numbers) ≡ true → o ≡ readAs (o .map)
 
-sound-unless : (b : Bool) (fault : ReadFault) (rest : Outcome) → Sound rest → Sound (unless b (refused fault) rest)
+sound-unless : (b : Bool) (fault : ReadFault) (rest : ReadOutcome) → Sound rest → Sound (unless b (readRefused fault) rest)
 sound-unless true fault rest sound e = sound e
 sound-unless false fault rest sound e = clash e (read-fault-refuses fault)
 
@@ -44,18 +45,18 @@ reading-sound s =
     (sound-judged (mapAt s (stationsIn s) (lotIn s) (startIn s))))))))
 
 -- an opening that refuses nothing passed each test
-passed : (b : Bool) (numbers : List ℕ) (rest o : Outcome) → (b ≡ false → isAccepted numbers ≡ false) → isAccepted (o .numbers) ≡ true
-    → unless b (unopened numbers) rest ≡ o → (b ≡ true) × (rest ≡ o)
+passed : (b : Bool) (numbers : List ℕ) (rest o : ReadOutcome) → (b ≡ false → isAccepted numbers ≡ false) → isAccepted (o .numbers) ≡ true
+    → unless b (openRefused numbers) rest ≡ o → (b ≡ true) × (rest ≡ o)
 passed true numbers rest o refuses accepts e = (refl, e)
 passed false numbers rest o refuses accepts e =
-    clash accepts (sym (ap (λ (x : Outcome). isAccepted (x .numbers)) e) ∙ refuses refl)
+    clash accepts (sym (ap (λ (x : ReadOutcome). isAccepted (x .numbers)) e) ∙ refuses refl)
 
-pub opened-accepted : (s : List ℕ) (draws : ℕ) (m : Map) → opening s ≡ record { numbers = 0 ∷ draws ∷ []; map = m }
+pub opened-accepted : (s : List ℕ) (draws : ℕ) (m : Map) → inputOpening s ≡ record { numbers = 0 ∷ draws ∷ []; map = m }
     → acceptance m ≡ accepted
-unfolding opening
+unfolding inputOpening
 opened-accepted s draws m e =
     let few = passed (leb (length s) mostBytes) (openFaultNumbers TooLong) _ _ (λ _. refl) refl e in
     let read = passed (isAccepted (reading s .numbers)) (reading s .numbers) _ _ (λ e. e) refl (few .1) in
     let even = passed (eqb (bytesBefore s (reading s .map) % 2) 0) (openFaultNumbers Odd) _ _ (λ _. refl) refl (read .1) in
-    let same : reading s .map ≡ m = ap (λ (o : Outcome). o .map) (even .1) in
+    let same : reading s .map ≡ m = ap (λ (o : ReadOutcome). o .map) (even .1) in
     ap acceptance (sym same) ∙ read-accepted s (reading s .map) (reading-sound s (read .0))

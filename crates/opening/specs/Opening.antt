@@ -4,11 +4,12 @@ use Prim.Native.Nat.{ℕ, _*_, _-_, _/_, _%_}
 use lib.Dec.{leb, eqb}
 use lib.ListN.{length}
 use Rattle.finite.specs.Below.{tabulate}
-use Rattle.topology.specs.Answer.{isAccepted, unless}
+use Rattle.topology.specs.Answer.{isAccepted}
+use Rattle.finite.specs.Tests.{unless}
 use Rattle.linemap.specs.declared.Map.{Map}
 use Rattle.linemap.specs.Numbers.{number}
 use Rattle.linemap.specs.Stored.{storedLength}
-use Rattle.linemap.specs.Reading.{readFaultNumbers, Outcome, emptyMap, reading}
+use Rattle.linemap.specs.Reading.{readFaultNumbers, ReadOutcome, emptyMap, reading}
 use Rattle.opening.specs.declared.OpenFault.{OpenFault}
 use Rattle.opening.specs.declared.OpenFault.the-variants.{TooLong, Unread, Odd}
 use Rattle.opening.specs.declared.OpenAnswer.{OpenAnswer}
@@ -27,12 +28,12 @@ openNumbers (Opened draws) = 0 ∷ draws ∷ []
 openNumbers (Refused fault) = openFaultNumbers fault
 
 -- what an opening comes to: the number with its values, and the map
-abbrev pub outcomeOf : Opening → Outcome
-outcomeOf o = record { numbers = openNumbers (o .answer); map = o .map }
+abbrev pub openOutcomeOf : Opening → ReadOutcome
+openOutcomeOf o = record { numbers = openNumbers (o .answer); map = o .map }
 
 -- a refusal opens no map
-abbrev pub unopened : List ℕ → Outcome
-unopened numbers = record { numbers = numbers; map = emptyMap }
+abbrev pub openRefused : List ℕ → ReadOutcome
+openRefused numbers = record { numbers = numbers; map = emptyMap }
 
 -- "input above 65,536 bytes"
 abbrev pub mostBytes : ℕ
@@ -43,11 +44,11 @@ abbrev pub bytesBefore : List ℕ → Map → ℕ
 bytesBefore s m = length s - storedLength (m .k)
 
 -- "Order: 17, 1 to 10, 16"
-unfoldable pub opening : List ℕ → Outcome
-opening s =
-    unless (leb (length s) mostBytes) (unopened (openFaultNumbers TooLong))
-    (unless (isAccepted (reading s .numbers)) (unopened (reading s .numbers))
-    (unless (eqb (bytesBefore s (reading s .map) % 2) 0) (unopened (openFaultNumbers Odd))
+unfoldable pub inputOpening : List ℕ → ReadOutcome
+inputOpening s =
+    unless (leb (length s) mostBytes) (openRefused (openFaultNumbers TooLong))
+    (unless (isAccepted (reading s .numbers)) (openRefused (reading s .numbers))
+    (unless (eqb (bytesBefore s (reading s .map) % 2) 0) (openRefused (openFaultNumbers Odd))
     (record { numbers = 0 ∷ bytesBefore s (reading s .map) / 2 ∷ []; map = reading s .map })))
 
 -- "draws, 2 bytes each": draw i, counted from 0, lowest byte first

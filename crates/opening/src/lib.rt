@@ -12,7 +12,8 @@ ghost use Rattle.linemap.specs.Reading.{readFaultNumbers};
 ghost use Rattle.opening.specs.Opening as rules;
 ghost use Rattle.opening.specs.Refusals.{refusalLine};
 
-const MOST_BYTES: usize = 65536;
+// The most bytes that the program takes.
+pub const MOST_BYTES: usize = 65536;
 
 // Why nothing is opened.
 pub enum OpenFault {
@@ -36,7 +37,7 @@ pub struct Opening {
 }
 
 fn refuse(fault: OpenFault) -> Opening
-    ensures { λ r. ⌜ rules.outcomeOf r ≡ rules.unopened (rules.openFaultNumbers fault) ⌝ }
+    ensures { λ r. ⌜ rules.openOutcomeOf r ≡ rules.openRefused (rules.openFaultNumbers fault) ⌝ }
 {
     Opening {
         answer: OpenAnswer::Refused(fault),
@@ -46,7 +47,7 @@ fn refuse(fault: OpenFault) -> Opening
 
 // The map at the end of the input and the draws before it: the rules 17, 1 to 10, 16.
 pub fn open(input: &[u8]) -> Opening
-    ensures { λ r. ⌜ rules.outcomeOf r ≡ rules.opening (now (input .entry)) ⌝ }
+    ensures { λ r. ⌜ rules.openOutcomeOf r ≡ rules.inputOpening (now (input .entry)) ⌝ }
 {
     if MOST_BYTES < input.len() {
         return refuse(OpenFault::TooLong);

@@ -15,10 +15,10 @@ use Rattle.bitset.specs.Set.{member}
 use Rattle.aggregate.specs.declared.Config.{Config}
 use Rattle.aggregate.specs.declared.Aggregate.{Aggregate}
 use Rattle.aggregate.specs.Aggregate.{rootOf, bounded}
-use Rattle.aggregate.specs.Joining.{joining}
-use Rattle.wave.specs.Wave.{next, Weak}
-use Rattle.wave.specs.Wave as wave
-use Rattle.topology.specs.Acceptance.{Web}
+use Rattle.aggregate.specs.internal.Joining.{joining}
+use Rattle.wave.specs.internal.Wave.{next, Weak}
+use Rattle.wave.specs.internal.Wave as wave
+use Rattle.topology.specs.Web.{Web}
 use Rattle.mail.specs.declared.Message.the-variants.{Start, Answer}
 use Rattle.mail.specs.declared.Mailbox.{Mailbox}
 use Rattle.mail.specs.declared.Mailbox.the-variants.{Empty, Full}

@@ -8,22 +8,23 @@ use Prim.Native.Nat.{ℕ, pred, _-_, _^_, _<_, _≤_}
 use native.Mathlib.Omega.{arith}
 use lib.Dec.{eqb, ltb, leb}
 use borrow.Author.Tests.{eqb-true, eqb-false, eq-eqb, ne-eqb, not-true, lt-ltb}
-use Rattle.finite.specs.Sum.{addition, sumTo, indicator}
+use Rattle.finite.specs.Sum.{indicator}
+use Rattle.finite.specs.internal.Monoid.{addition, sumTo}
 use Rattle.finite.proofs.Cases.{clash, by-bool, by-eq, by-sum, and-both, or-cases, eqb-self}
 use Rattle.bitset.specs.Set.{member, size}
 use Rattle.bitset.proofs.Laws.{size-sum}
 use Rattle.aggregate.specs.declared.Config.{Config}
 use Rattle.aggregate.specs.declared.Aggregate.{Aggregate}
 use Rattle.aggregate.specs.Aggregate.{rootOf}
-use Rattle.aggregate.specs.Joining.{joining}
-use Rattle.wave.specs.Graph.{Graph}
+use Rattle.aggregate.specs.internal.Joining.{joining}
+use Rattle.wave.specs.internal.Graph.{Graph}
 use Rattle.station.specs.declared.Station.{Station}
 use Rattle.station.specs.Events.{ended}
 use Rattle.schedule.specs.declared.Step.{Step}
 use Rattle.schedule.specs.Rules.{inRange, allowed}
-use Rattle.schedule.specs.Calls.{labelOf}
+use Rattle.schedule.specs.internal.Labels.{labelOf}
 use Rattle.schedule.proofs.Listing.{Allowed, range-bounds}
-use Rattle.topology.specs.Acceptance.{Web}
+use Rattle.topology.specs.Web.{Web}
 use Rattle.mail.specs.declared.Message.the-variants.{Start, Answer}
 use Rattle.mail.specs.declared.Mailbox.{Mailbox}
 use Rattle.mail.specs.declared.Mailbox.the-variants.{Empty, Full}
@@ -32,7 +33,7 @@ use Rattle.mail.specs.Mail.{boxAt}
 use Rattle.mailbox.specs.Delivery.{takesFrom, taken, mustAnswer, delivered, mayReport, reported}
 use Rattle.mailbox.proofs.Delivered.{Shaped, receiver, delivered-config, delivered-shaped, station-after-delivery, box-after-delivery, reported-shaped, station-after-report, box-after-report}
 use Rattle.mailbox.specs.Rules as figure
-use Rattle.mailbox.specs.Rules.{mayStep, applied, rules}
+use Rattle.mailbox.specs.Rules.{mayStep, netAfter, rules}
 use Rattle.order.proofs.Stations.{viewOf, line, Places}
 use Rattle.order.proofs.Mailing.{Box, empty, start, answer, full, isAnswer, received, MailView, Act, deliver, close, label, May, sumThen, parentThen, waitsThen, answersThen, boxThen, Does}
 
@@ -136,7 +137,7 @@ module _ (t : Config) (neighbours : List ℕ) (web : Web (rootOf t) (t .k) neigh
         → ((s r : ℕ) → s < t .k → r < t .k → (s ≡ r → ⊥) → takesFrom (station n r) (boxAt (n .boxes) s r) ≡ true → P (deliver s r) (delivered n s r))
         → (mayReport (station n (rootOf t)) ≡ true → P close (reported n (rootOf t)))
         → P (act m) (rules .apply n m)
-    unfolding mayStep applied
+    unfolding mayStep netAfter
     by-step P d c =
         let s = m .sender in
         let r = m .receiver in

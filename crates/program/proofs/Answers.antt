@@ -6,7 +6,7 @@ use mathlib.Core.List.{List, [], _∷_}
 use Prim.Native.Nat.{ℕ}
 use lib.ListN.{getD}
 use Rattle.finite.proofs.Cases.{clash}
-use Rattle.wave.specs.Graph.{links}
+use Rattle.finite.specs.Links.{links}
 use Rattle.topology.specs.declared.Fault.{Fault}
 use Rattle.topology.specs.declared.LinksAnswer.{LinksAnswer}
 use Rattle.topology.specs.declared.LinksAnswer.the-variants.{Counted}
@@ -17,18 +17,17 @@ use Rattle.topology.proofs.Answers.{fault-refuses}
 use Rattle.linemap.specs.declared.Map.{Map}
 use Rattle.linemap.specs.Maps.{acceptance, linksIn}
 use Rattle.linemap.proofs.Answers.{read-fault-refuses}
-use Rattle.schedule.specs.declared.Answer.the-variants.{Refused}
 use Rattle.opening.specs.declared.OpenFault.{OpenFault}
 use Rattle.opening.specs.declared.OpenFault.the-variants.{TooLong, Unread, Odd}
 use Rattle.opening.specs.declared.OpenAnswer.{OpenAnswer}
 use Rattle.opening.specs.declared.OpenAnswer.the-variants.{Opened}
 use Rattle.opening.specs.declared.Opening.{Opening}
 use Rattle.opening.specs.declared.OpenAnswer.the-variants as opened
-use Rattle.opening.specs.Opening.{openFaultNumbers, openNumbers, opening, outcomeOf as openedAs}
+use Rattle.opening.specs.Opening.{openFaultNumbers, openNumbers, inputOpening, openOutcomeOf as openedAs}
 use Rattle.opening.specs.Refusals.{refusalLine}
 use Rattle.opening.proofs.Accepted.{opened-accepted}
 use Rattle.program.specs.Output.{linesOf}
-use Rattle.program.specs.Writing.{Opens}
+use Rattle.program.specs.internal.Filling.{Opens}
 
 -- the links of an accepted map are counted
 module _ (m : Map) (good : acceptance m ≡ accepted) where
@@ -45,8 +44,8 @@ module _ (m : Map) (good : acceptance m ≡ accepted) where
         clash (ap isAccepted (sym (ap linksNumbers q) ∙ e ∙ links-are)) (fault-refuses fault)
 
 -- what an opening answers: a map with draws, or a refusal, which is all that is written
-module _ (s : List ℕ) (o : Opening) (e : openedAs o ≡ opening s) where
-  answered : {a : OpenAnswer} → o .answer ≡ a → opening s ≡ record { numbers = openNumbers a; map = o .map }
+module _ (s : List ℕ) (o : Opening) (e : openedAs o ≡ inputOpening s) where
+  answered : {a : OpenAnswer} → o .answer ≡ a → inputOpening s ≡ record { numbers = openNumbers a; map = o .map }
   answered q = sym e ∙ ap (λ (x : OpenAnswer). record { numbers = openNumbers x; map = o .map }) q
 
   pub opens-map : {draws : ℕ} → o .answer ≡ Opened draws → Opens s (o .map) draws

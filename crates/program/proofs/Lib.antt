@@ -1,2 +1,7 @@
-pub mod Run
+pub mod Lines
+pub mod Standing
+pub mod Fitting
+pub mod Few
+pub mod Outputs
 pub mod Answers
+pub mod Inputs

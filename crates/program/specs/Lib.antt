@@ -1,2 +1,3 @@
 pub mod Output
-pub mod Writing
+pub mod Running
+pub mod internal

@@ -1,15 +1,15 @@
 -- What the program writes for its input (document 01, "The program").
 use mathlib.Core.Bool.{cond}
 use mathlib.Core.List.{List, [], _∷_, _++_, flatMap}
-use Prim.Native.Nat.{ℕ}
-use lib.Dec.{eqb}
+use Prim.Native.Nat.{ℕ, _+_, _*_}
+use lib.Dec.{eqb, leb}
 use lib.ListN.{length, getD}
-use Rattle.wave.specs.Graph.{links}
+use Rattle.finite.specs.Tests.{unless}
 use Rattle.topology.specs.Answer.{isAccepted}
-use Rattle.topology.specs.Acceptance.{linked}
 use Rattle.linemap.specs.declared.Map.{Map}
+use Rattle.linemap.specs.Maps.{linkCount}
 use Rattle.schedule.specs.declared.Step.{Step}
-use Rattle.schedule.specs.Draws.{onward, drawOn, runMade}
+use Rattle.schedule.specs.Draws.{runMade}
 use Rattle.rendezvous.specs.declared.Net.{Net}
 use Rattle.rendezvous.specs.Net.{station}
 use Rattle.rendezvous.specs.Figure.{wake, pass, answer}
@@ -17,8 +17,8 @@ use Rattle.rendezvous.specs.Rules.{rules}
 use Rattle.rendezvous.specs.Opening.{freshOn}
 use Rattle.text.specs.declared.Line.{Line}
 use Rattle.text.specs.declared.Line.the-variants.{Wake, Pass, Answer, Report, Closing}
-use Rattle.text.specs.Text.{textOf}
-use Rattle.opening.specs.Opening.{opening, drawsIn}
+use Rattle.text.specs.Text.{textOf, lineRoom}
+use Rattle.opening.specs.Opening.{inputOpening, drawsIn}
 use Rattle.opening.specs.Refusals.{refusalLine}
 
 -- the line of a step in a net: "Wake and pass show sender, receiver; answer adds the sum; report shows the desk, the total."
@@ -29,27 +29,38 @@ stepLine net s =
     (cond (eqb (s .kind) answer) (Answer (s .sender) (s .receiver) (station net (s .sender) .held))
     (Report (s .sender) (station net (s .sender) .held))))
 
--- "one line a step": the steps that the draws make, each in the net before it
-unfoldable pub stepLines : Net → List ℕ → List Line
+-- "one line a step": the line of each step, in the net in which it is made
+unfoldable pub stepLines : Net → List Step → List Line
 stepLines net [] = []
-stepLines net (d ∷ ds) =
-    onward (drawOn rules net d .made) [] (λ s. stepLine net s ∷ stepLines (drawOn rules net d .net) ds)
+stepLines net (s ∷ made) = stepLine net s ∷ stepLines (rules .apply net s) made
 
 -- "a closing line with the lot, the steps made and m"
 abbrev pub closingLine : Map → ℕ → Line
-closingLine m steps = Closing (m .lot) steps (links (m .k) (linked (m .k) (m .neighbours)))
+closingLine m steps = Closing (m .lot) steps (linkCount m)
 
 -- "It runs stations that meet. Output is one line a step, then, also when the draws run out, a closing line"
 unfoldable pub lotLines : Map → List ℕ → List Line
-lotLines m draws = stepLines (freshOn m) draws ++ (closingLine m (length (runMade rules (freshOn m) draws)) ∷ [])
+lotLines m draws =
+    stepLines (freshOn m) (runMade rules (freshOn m) draws) ++ (closingLine m (length (runMade rules (freshOn m) draws)) ∷ [])
 
 -- the lines for an input; "A refusal prints .. and nothing else"
 unfoldable pub linesOf : List ℕ → List Line
 linesOf s =
-    cond (isAccepted (opening s .numbers))
-    (lotLines (opening s .map) (drawsIn s (getD (opening s .numbers) 1 0)))
-    (refusalLine (opening s .numbers) ∷ [])
+    unless (isAccepted (inputOpening s .numbers)) (refusalLine (inputOpening s .numbers) ∷ [])
+    (lotLines (inputOpening s .map) (drawsIn s (getD (inputOpening s .numbers) 1 0)))
 
 -- the bytes written
 abbrev pub outputOf : List ℕ → List ℕ
 outputOf s = flatMap textOf (linesOf s)
+
+-- "64 stations all linked: 2,016 links, 4,033 steps" (Edges): a line for each step, and the closing line
+abbrev pub mostLines : ℕ
+mostLines = 2 * 2016 + 1 + 1
+
+-- every output fits into so many bytes
+abbrev pub outputRoom : ℕ
+outputRoom = mostLines * lineRoom
+
+-- what is put into a buffer of n bytes: the output, or nothing where not every output would fit
+unfoldable pub outputIn : ℕ → List ℕ → List ℕ
+outputIn n s = cond (leb outputRoom n) (outputOf s) []

@@ -1,38 +1,42 @@
-// The program (document 01, "The program"): draws and a map from standard input, a line a step to standard output. No contract can say
-// what is read or written; what each write is given is pinned by what it requires.
-use libc::STDOUT_FILENO;
+// The program (document 01, "The program"): draws and a map from standard input, a line a step to standard output. `put_output` gives the
+// bytes for an input, and `run` reads an input and writes them.
+mod streams;
+
 use linemap::Map;
 use opening::OpenAnswer;
 use rendezvous::Net;
 use schedule::Answer;
 use schedule::Step;
+pub use streams::Input;
+pub use streams::run;
 use text::Line;
 use topology::LinksAnswer;
 ghost use mathlib.Core.Path.{_≡_};
-ghost use Prim.Native.Nat.{_<_};
+ghost use Prim.Native.Nat.{_+_, _<_, _≤_};
 ghost use lib.ListN.{length};
-ghost use Rattle.wave.specs.Graph;
 ghost use Rattle.topology.specs.Answer.{accepted};
-ghost use Rattle.topology.specs.Acceptance.{linked};
-ghost use Rattle.linemap.specs.Maps.{acceptance};
-ghost use Rattle.text.specs.Text.{textOf};
-ghost use Rattle.program.specs.Output.{stepLine, closingLine, linesOf};
-ghost use Rattle.program.specs.Writing.{IsLine, Opens, Closes};
+ghost use Rattle.linemap.specs.Maps.{acceptance, linkCount};
+ghost use Rattle.text.specs.Text.{textOf, lineRoom, over};
+ghost use Rattle.text.specs.internal.Putting.{Put};
+ghost use Rattle.program.specs.Output.{stepLine, closingLine, outputRoom, outputIn};
+ghost use Rattle.program.specs.internal.Filling.{Opens, Roomy, StepsPut, Filled};
 
-// Writes the bytes of a line.
-fn write_text(line: Line, bytes: &[u8])
-    requires { ⌜ now bytes ≡ textOf line ⌝ }
-{
-    io::write_all(STDOUT_FILENO, bytes);
+// Room for every output: 64 stations all linked take 4,033 steps, and a closing line.
+pub const OUTPUT_ROOM: usize = 4034 * text::LINE_ROOM;
+
+// How many steps were made, and the place after their lines.
+struct Steps {
+    made: u16,
+    end: usize,
 }
 
-// Writes line i of the output for this input.
-fn write_line(input: &[u8], i: u16, line: Line)
-    requires { ⌜ IsLine (now input) i line ⌝ }
+// Puts a line from `at` on, and answers the place after it.
+fn put_line_at(out: &mut [u8], at: usize, line: Line) -> usize
+    requires { ⌜ at + lineRoom ≤ length (now out) ⌝ }
+    ensures { λ r. ⌜ Put (now (out .entry)) at (textOf line) (now (out .exit)) r ⌝ }
 {
-    let mut bytes = [0u8; text::LINE_ROOM];
-    let n = text::put_line(&mut bytes, line);
-    write_text(line, &bytes[..n]);
+    let n = text::put_line(&mut out[at..], line);
+    at + n
 }
 
 // The line of a step in this net.
@@ -55,7 +59,7 @@ fn step_line(net: Net, step: Step) -> Line
 // The number of links of an accepted map.
 fn count_links(m: Map) -> u32
     requires { ⌜ acceptance m ≡ accepted ⌝ }
-    ensures { λ r. ⌜ r ≡ Graph.links (m .k) (linked (m .k) (m .neighbours)) ⌝ }
+    ensures { λ r. ⌜ r ≡ linkCount m ⌝ }
 {
     let counted = linemap::links(m);
     match counted {
@@ -76,52 +80,60 @@ fn closing_line(m: Map, steps: u16) -> Line
     }
 }
 
-// Writes the lines of the steps, until the draws are used up or the net is quiescent (01: at rest), and answers how many were made.
-fn write_steps(input: &[u8], m: Map, draws: u16) -> u16
+// Puts the lines of the steps, until the draws are used up or the net is quiescent (01: at rest).
+fn put_steps(input: &[u8], m: Map, draws: u16, out: &mut [u8]) -> Steps
     requires { ⌜ Opens (now input) m draws ⌝ }
-    ensures { λ r. ⌜ Closes (now (input .entry)) r ⌝ }
+    requires { ⌜ Roomy (now input) (now out) ⌝ }
+    ensures { λ r. ⌜ StepsPut (now (input .entry)) (now (out .entry)) (r .made) (r .end) (now (out .exit)) ⌝ }
 {
     let opened = rendezvous::fresh(m);
     let mut net = opened.net;
     let mut made: u16 = 0;
+    let mut end: usize = 0;
     while made < draws {
-        let drawn = rendezvous::draw(net, opening::draw_at(input, made));
+        let here = net;
+        let drawn = rendezvous::draw(here, opening::draw_at(input, made));
         let answer = drawn.answer;
         let Answer::Made(step) = answer else {
             break;
         };
-        write_line(input, made, step_line(net, step));
+        end = put_line_at(out, end, step_line(here, step));
         let next = drawn.net;
         net = next;
         made += 1;
     }
-    made
+    Steps {
+        made: made,
+        end: end,
+    }
 }
 
-// Writes the lines of a map's run, and answers how many that is.
-fn write_run(input: &[u8], m: Map, draws: u16) -> u32
+// Puts the lines of a map's run, and answers the place after them.
+fn put_lot(input: &[u8], m: Map, draws: u16, out: &mut [u8]) -> usize
     requires { ⌜ Opens (now input) m draws ⌝ }
-    ensures { λ r. ⌜ r ≡ length (linesOf (now (input .entry))) ⌝ }
+    requires { ⌜ outputRoom ≤ length (now out) ⌝ }
+    ensures { λ r. ⌜ Filled (now (input .entry)) (now (out .entry)) (now (out .exit)) r ⌝ }
 {
-    let made = write_steps(input, m, draws);
-    write_line(input, made, closing_line(m, made));
-    made as u32 + 1
+    let steps = put_steps(input, m, draws, out);
+    put_line_at(out, steps.end, closing_line(m, steps.made))
 }
 
-// Writes the lines for this input, and answers how many that is.
-pub fn write_output(input: &[u8]) -> u32
-    ensures { λ r. ⌜ r ≡ length (linesOf (now (input .entry))) ⌝ }
+// Puts the output for this input at the start of out, and answers its length. An out of under OUTPUT_ROOM bytes is left as it was, and
+// the answer is 0.
+pub fn put_output(input: &[u8], out: &mut [u8]) -> usize
+    ensures count { λ r. ⌜ r ≡ length (outputIn (length (now (out .entry))) (now (input .entry))) ⌝ }
+    ensures bytes { λ _. ⌜ now (out .exit) ≡ over (outputIn (length (now (out .entry))) (now (input .entry))) (now (out .entry)) ⌝ }
 {
+    if out.len() < OUTPUT_ROOM {
+        return 0;
+    }
     let opened = opening::open(input);
     let answer = opened.answer;
     match answer {
-        OpenAnswer::Refused(fault) => {
-            write_line(input, 0, opening::refusal_line(fault));
-            1
-        }
+        OpenAnswer::Refused(fault) => put_line_at(out, 0, opening::refusal_line(fault)),
         OpenAnswer::Opened(draws) => {
             let map = opened.map;
-            write_run(input, map, draws)
+            put_lot(input, map, draws, out)
         }
     }
 }

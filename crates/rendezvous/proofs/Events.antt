@@ -13,30 +13,30 @@ use Rattle.bitset.proofs.Laws.{within-lt, within-width}
 use Rattle.aggregate.specs.declared.Config.{Config}
 use Rattle.aggregate.specs.declared.Aggregate.{Aggregate}
 use Rattle.aggregate.specs.Aggregate.{rootOf, bounded, joined}
-use Rattle.aggregate.proofs.Laws.{bounded-lt, lt-bounded, nothing-bounded, same-sum, sum-joined, root-below}
+use Rattle.aggregate.proofs.Laws.{bounded-lt, lt-bounded, nothing-bounded, same-sum, sum-joined, root-below, root-any-k}
 use Rattle.station.specs.declared.Station.{Station}
 use Rattle.station.specs.declared.Process.{Process}
 use Rattle.station.specs.Events.{asleep, active, maySendStart, startSent, answerTaken, startedBy, mayReport, mayAnswer, ready, ended}
-use Rattle.station.specs.Form.{configOf, wellFormedProcess}
-use Rattle.station.specs.Process.{Outcome, decide, takeStart, sendStart, takeAnswer, sendAnswer}
+use Rattle.station.specs.Form.{processConfig, wellFormedProcess}
+use Rattle.station.specs.Process.{EventOutcome, decide, takeStart, sendStart, takeAnswer, sendAnswer}
 use Rattle.station.specs.Process as process
 use Rattle.station.proofs.Formed.{facts, well-formed}
-use Rattle.stations.specs.Stations.{outside}
+use Rattle.stations.specs.Stations.{blank}
 use Rattle.stations.proofs.Laws.{config-valid}
 use Rattle.rendezvous.specs.declared.Net.{Net}
 use Rattle.rendezvous.specs.Net.{station, wellFormed, withTwo}
-use Rattle.rendezvous.specs.Figure.{wake, pass, answer, report, applied}
-use Rattle.rendezvous.specs.Together.{processAt, isAccepted, may, Together, Alone, StepsAreEvents}
+use Rattle.rendezvous.specs.Figure.{wake, pass, answer, report, assigned}
+use Rattle.rendezvous.specs.Together.{processAt, isDone, may, Together, Alone, StepsAreEvents}
 use Rattle.rendezvous.proofs.Guards.{wake-guard, pass-guard, answer-guard, report-guard}
 use Rattle.rendezvous.proofs.Laws.{k-most, formed-at}
 use Rattle.rendezvous.proofs.Places.{two-sender, two-receiver}
 
 -- an event is accepted just where its guard holds, and then leaves the station s
-record Event (o : Outcome) (guard : Bool) (s : Station) : Type 0 where
-  accepted : isAccepted o ≡ guard
+record Event (o : EventOutcome) (guard : Bool) (s : Station) : Type 0 where
+  accepted : isDone o ≡ guard
   leaves : guard ≡ true → o .process .station ≡ s
 
-decided : (form range guard : Bool) (p : Process) (o : Outcome) → form ≡ true → range ≡ true → o .number ≡ 0
+decided : (form range guard : Bool) (p : Process) (o : EventOutcome) → form ≡ true → range ≡ true → o .number ≡ 0
     → Event (decide form range guard p o) guard (o .process .station)
 unfolding decide
 decided form range true p o f r z = rw (f, r) (record { accepted = eq-eqb (o .number) 0 z; leaves = λ g. refl })
@@ -60,24 +60,28 @@ joined-alike : (t u : Config) (a b : Aggregate) → joined t a b ≡ joined u a 
 joined-alike t u a b = same-sum _ _ (sum-joined t a b ∙ sym (sum-joined u a b))
 
 module _ (net : Net) (f : wellFormed net ≡ true) (full : length (net .stations) ≡ 64) where
-  -- a station of the net is a well-formed process of its own: 64 stands for k
+  -- a station by itself has the net's root, though 64 stands for k
+  same-root : (i : ℕ) → rootOf (processConfig (processAt net i)) ≡ rootOf (net .config)
+  same-root i = root-any-k 64 (net .config .k)
+
+  -- a station of the net is a well-formed process of its own
   process-formed : (i : ℕ) → i < net .config .k → wellFormedProcess (processAt net i) ≡ true
-  unfolding wellFormedProcess rootOf
+  unfolding wellFormedProcess
   process-formed i l =
       let t = net .config in
       let most = k-most net f in
       let w = facts t i (station net i) (formed-at net f i l) in
       let inside : i < 64 = omega arith in
       rw (lt-ltb i 64 inside)
-      (well-formed (configOf (processAt net i)) i (station net i)
+      (well-formed (processConfig (processAt net i)) i (station net i)
       (record {
         state-le = w .state-le;
         parent-below = omega (arith, w .parent-below);
         set-within = within-width (t .k) 64 (station net i .unstarted) (within-lt (t .k) (station net i .unstarted) (w .set-within)) most;
         waits-le = w .waits-le;
-        held-bounded = lt-bounded (configOf (processAt net i)) (station net i .held) (bounded-lt t (station net i .held) (w .held-bounded));
+        held-bounded = lt-bounded (processConfig (processAt net i)) (station net i .held) (bounded-lt t (station net i .held) (w .held-bounded));
         not-in-set = w .not-in-set;
-        own-parent = w .own-parent;
+        own-parent = λ e. w .own-parent e ∙ sym (same-root i);
       }))
 
   module _ (j i : ℕ) (lj : j < net .config .k) (li : i < net .config .k) where
@@ -96,9 +100,9 @@ module _ (net : Net) (f : wellFormed net ≡ true) (full : length (net .stations
     takes-start = decided _ _ _ _ _ (process-formed i li) (lt-ltb j 64 j-inside) refl
 
     -- a step whose two events are accepted by the guards a and b, and leave s and r
-    together : (kind : ℕ) (fit a b : Bool) (sends takes : Outcome) (s r : Station) → Event sends a s → Event takes b r
+    together : (kind : ℕ) (fit a b : Bool) (sends takes : EventOutcome) (s r : Station) → Event sends a s → Event takes b r
         → may net kind j i ≡ (not (eqb i j) && fit && a && b)
-        → (may net kind j i ≡ true → applied net kind j i ≡ withTwo net j s i r)
+        → (may net kind j i ≡ true → assigned net kind j i ≡ withTwo net j s i r)
         → Together net kind j i fit sends takes
     together kind fit a b sends takes s r es et guard effect =
         record {
@@ -116,7 +120,7 @@ module _ (net : Net) (f : wellFormed net ≡ true) (full : length (net .stations
     -- wake and pass: a start to a receiver in the state of the kind
     started : (kind : ℕ) (state : Bool) → may net kind j i ≡ (state && (maySendStart i (station net j) && not (eqb i j)))
         → (state ≡ true → (eqb (station net i .state) asleep || eqb (station net i .state) active) ≡ true)
-        → (state ≡ true → applied net kind j i ≡ withTwo net j (startSent i (station net j)) i (startedBy j (station net i)))
+        → (state ≡ true → assigned net kind j i ≡ withTwo net j (startSent i (station net j)) i (startedBy j (station net i)))
         → Together net kind j i state (sendStart i (processAt net j)) (takeStart j (processAt net i))
     started kind state guard takes effect =
         let start = maySendStart i (station net j) in
@@ -125,45 +129,50 @@ module _ (net : Net) (f : wellFormed net ≡ true) (full : length (net .stations
         (λ m. effect (and-both state (start && not (eqb i j)) (sym guard ∙ m) .0))
 
     wakes : Together net wake j i (eqb (station net i .state) asleep) (sendStart i (processAt net j)) (takeStart j (processAt net i))
-    unfolding applied startedBy
+    unfolding assigned startedBy
     wakes =
         started wake (eqb (station net i .state) asleep) (wake-guard (net .config) j i (station net j) (station net i))
         (λ e. or-left (eqb (station net i .state) asleep) (eqb (station net i .state) active) e)
         (λ (e : eqb (station net i .state) asleep ≡ true). rw e)
 
     passes : Together net pass j i (eqb (station net i .state) active) (sendStart i (processAt net j)) (takeStart j (processAt net i))
-    unfolding applied startedBy
+    unfolding assigned startedBy
     passes =
         started pass (eqb (station net i .state) active) (pass-guard (net .config) j i (station net j) (station net i))
         (λ e. or-right (eqb (station net i .state) asleep) (eqb (station net i .state) active) e)
         (λ e. let up : eqb (station net i .state) asleep ≡ false = rw (eqb-true (station net i .state) active e) in rw up)
 
+    -- it answers by itself just where it may in the net
+    same-guard : mayAnswer (processConfig (processAt net j)) j (station net j) ≡ mayAnswer (net .config) j (station net j)
+    unfolding mayAnswer
+    same-guard = ap (λ (root : ℕ). not (eqb j root) && ready (station net j)) (same-root j)
+
     -- an answer gives the sum of its sender
     sends-answer : Event (sendAnswer (processAt net j)) (mayAnswer (net .config) j (station net j)) (ended (station net j))
-    unfolding sendAnswer mayAnswer rootOf
-    sends-answer = decided _ _ _ _ _ (process-formed j lj) refl refl
+    unfolding sendAnswer
+    sends-answer = rw (← same-guard) (decided _ _ _ _ _ (process-formed j lj) refl refl)
 
     given-held : mayAnswer (net .config) j (station net j) ≡ true → sendAnswer (processAt net j) .given ≡ station net j .held
-    unfolding sendAnswer decide mayAnswer rootOf
-    given-held g = rw (process-formed j lj, g)
+    unfolding sendAnswer decide
+    given-held g = rw (process-formed j lj, same-guard ∙ g)
 
-    given-bounded : bounded (configOf (processAt net i)) (sendAnswer (processAt net j) .given) ≡ true
-    unfolding sendAnswer decide mayAnswer rootOf
+    given-bounded : bounded (processConfig (processAt net i)) (sendAnswer (processAt net j) .given) ≡ true
+    unfolding sendAnswer decide
     given-bounded =
-        let t = configOf (processAt net i) in
+        let t = processConfig (processAt net i) in
         let held = facts (net .config) j (station net j) (formed-at net f j lj) .held-bounded in
         by-bool (mayAnswer (net .config) j (station net j))
-        (λ g. rw (process-formed j lj, g) (lt-bounded t (station net j .held) (bounded-lt (net .config) (station net j .held) held)))
-        (λ g. rw (process-formed j lj, g) (nothing-bounded t))
+        (λ g. rw (process-formed j lj, same-guard ∙ g) (lt-bounded t (station net j .held) (bounded-lt (net .config) (station net j .held) held)))
+        (λ g. rw (process-formed j lj, same-guard ∙ g) (nothing-bounded t))
 
     takes-answer : let v = sendAnswer (processAt net j) .given in
-        Event (takeAnswer v (processAt net i)) (eqb (station net i .state) active) (answerTaken (configOf (processAt net i)) v (station net i))
+        Event (takeAnswer v (processAt net i)) (eqb (station net i .state) active) (answerTaken (processConfig (processAt net i)) v (station net i))
     unfolding takeAnswer
     takes-answer = decided _ _ _ _ _ (process-formed i li) given-bounded refl
 
     answers : let sends = sendAnswer (processAt net j) in
         Together net answer j i (eqb (station net j .parent) i) sends (takeAnswer (sends .given) (processAt net i))
-    unfolding applied
+    unfolding assigned
     answers =
         let s = station net j in
         let r = station net i in
@@ -175,18 +184,21 @@ module _ (net : Net) (f : wellFormed net ≡ true) (full : length (net .stations
         (rw (eqb-comm i j) guard)
         (λ m.
         let sent = and-both (not (eqb j i) && fit) send (and-both (not (eqb j i) && fit && send) state (sym guard ∙ m) .0) .1 in
-        rw (given-held sent, joined-alike (net .config) (configOf (processAt net i)) (r .held) (s .held)))
+        rw (given-held sent, joined-alike (net .config) (processConfig (processAt net i)) (r .held) (s .held)))
 
   root-inside : rootOf (net .config) < net .config .k
   unfolding wellFormed
   root-inside = root-below (net .config) (config-valid (net .config) (net .stations) f)
 
   reports-event : let root = rootOf (net .config) in Event (process.report (processAt net root)) (ready (station net root)) (ended (station net root))
-  unfolding process.report mayReport rootOf
-  reports-event = decided _ _ _ _ _ (process-formed (rootOf (net .config)) root-inside) refl refl
+  unfolding process.report mayReport
+  reports-event =
+      let root = rootOf (net .config) in
+      let own : eqb root (rootOf (processConfig (processAt net root))) ≡ true = eq-eqb _ _ (sym (same-root root)) in
+      rw own (decided _ _ _ _ _ (process-formed root root-inside) refl refl)
 
   reports : Alone net report (rootOf (net .config)) (process.report (processAt net (rootOf (net .config))))
-  unfolding applied
+  unfolding assigned
   reports =
       let root = rootOf (net .config) in
       let inside : root < 64 = omega (arith, k-most net f, root-inside) in
@@ -194,11 +206,11 @@ module _ (net : Net) (f : wellFormed net ≡ true) (full : length (net .stations
       record {
         allowed = guard ∙ sym (reports-event .accepted);
         reporter = λ m.
-            getD-set-same (net .stations) root (ended (station net root)) outside (rw full inside)
+            getD-set-same (net .stations) root (ended (station net root)) blank (rw full inside)
             ∙ sym (reports-event .leaves (sym guard ∙ m));
       }
 
 -- "Each step is the sender's event and the receiver's together" (document 01, Stations that meet), in a well-formed net of 64 places
-pub steps-are-events : (net : Net) → wellFormed net ≡ true → length (net .stations) ≡ 64 → StepsAreEvents net
+pub steps-are-events : StepsAreEvents
 steps-are-events net f full =
     record { wakes = wakes net f full; passes = passes net f full; answers = answers net f full; reports = reports net f full }

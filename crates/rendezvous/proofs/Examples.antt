@@ -3,27 +3,27 @@
 use mathlib.Core.Path.{_≡_, refl}
 use mathlib.Core.List.{[], _∷_, _++_, flatMap}
 use lib.ListN.{replicate}
-use Rattle.finite.specs.Below.{allBelow, tabulate}
-use Rattle.bitset.specs.Set.{member, count, size, without, within}
-use Rattle.aggregate.specs.Aggregate.{rootOf, valid, bounded, nothing, gathered}
+use Rattle.finite.specs.Below.{allBelow, each, tabulate}
+use Rattle.bitset.specs.Set.{member, membersBelow, size, without, within}
+use Rattle.aggregate.specs.Aggregate.{rootOf, valid, bounded, gathered}
 use Rattle.refusal.specs.declared.Refusal.the-variants.{NotAllowed}
 use Rattle.station.specs.Form as form
 use Rattle.schedule.specs.Rules.{inRange, allowed}
-use Rattle.schedule.specs.Listing.{range, keepIf, select, candidates, listed, step}
+use Rattle.schedule.specs.Listing.{range, select, candidates, listed, step}
 use Rattle.schedule.specs.Listing as listing
-use Rattle.schedule.specs.Outcome.{accepted, refused}
+use Rattle.schedule.specs.Outcome.{stepMade, stepRefused}
 use Rattle.schedule.specs.Draws.{stepOn}
 use Rattle.stations.specs.Stations.{blank, areWellFormed, freshStation, freshStations}
 use Rattle.rendezvous.specs.declared.Net.{Net}
 use Rattle.rendezvous.specs.Net.{wellFormed, freshNet}
-use Rattle.rendezvous.specs.Figure.{wake, report, mayStep, applied}
+use Rattle.rendezvous.specs.Figure.{wake, report, mayStep, assigned}
 use Rattle.rendezvous.specs.Rules.{rules}
 
 abbrev triangle : Net
 triangle = freshNet (record { k = 3 }) (5 ∷ 7 ∷ 11 ∷ []) (6 ∷ 5 ∷ 3 ∷ [])
 
 first-steps : listed rules triangle ≡ step wake 0 1 ∷ step wake 0 2 ∷ []
-unfolding listed select keepIf candidates range listing.count flatMap allowed inRange mayStep freshNet freshStations freshStation tabulate member count size rootOf nothing gathered
+unfolding listed select candidates range listing.numbersFrom flatMap allowed inRange mayStep freshNet freshStations freshStation tabulate each member membersBelow size rootOf gathered
 first-steps = refl
 
 -- station 1 has the root for its parent, has to start station 2, and waits for it
@@ -39,10 +39,10 @@ woken =
           ++ replicate 61 blank;
     }
 
-first-wake : stepOn rules triangle (step wake 0 1) ≡ accepted (step wake 0 1) woken
-unfolding stepOn wellFormed areWellFormed form.wellFormed allBelow inRange mayStep applied freshNet freshStations freshStation tabulate member count size without within rootOf valid bounded nothing gathered
+first-wake : stepOn rules triangle (step wake 0 1) ≡ stepMade (step wake 0 1) woken
+unfolding stepOn wellFormed areWellFormed form.wellFormed allBelow inRange mayStep assigned freshNet freshStations freshStation tabulate each member membersBelow size without within rootOf valid bounded gathered
 first-wake = refl
 
-too-early : stepOn rules triangle (step report 0 0) ≡ refused NotAllowed triangle
-unfolding stepOn wellFormed areWellFormed form.wellFormed allBelow inRange mayStep freshNet freshStations freshStation tabulate member count size within rootOf valid bounded nothing gathered
+too-early : stepOn rules triangle (step report 0 0) ≡ stepRefused NotAllowed triangle
+unfolding stepOn wellFormed areWellFormed form.wellFormed allBelow inRange mayStep freshNet freshStations freshStation tabulate each member membersBelow size within rootOf valid bounded gathered
 too-early = refl

@@ -6,11 +6,12 @@ use native.Mathlib.Nat.{lt-of-le-of-lt}
 use lib.ListN.{length}
 use lib.Bits.{bitAnd, and-zero-l, and-le-r}
 use Rattle.schedule.specs.declared.rows.Sizes.{Sizes}
-use Rattle.schedule.specs.Rows.{none, fourSet, added}
+use Rattle.schedule.specs.Rows.{none, added}
+use Rattle.schedule.specs.internal.Rows.{fourSet}
 use Rattle.schedule.proofs.Counting.{Stored, Counted, stored-none, stored-four, counted-none, counted-four, counted-all}
 use Rattle.rendezvous.specs.declared.listing.States.{States}
 use Rattle.rendezvous.specs.declared.listing.Sends.{Sends}
-use Rattle.rendezvous.specs.Receivers.{takersIn, HasRows, HoldTakers}
+use Rattle.rendezvous.specs.internal.Receivers.{takersIn, HasRows, HoldTakers}
 
 pub and-lt : (a set : ℕ) → set < 2 ^ 64 → bitAnd a set < 2 ^ 64
 and-lt a set h = lt-of-le-of-lt (and-le-r a set) h

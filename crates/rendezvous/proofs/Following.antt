@@ -19,12 +19,12 @@ use Rattle.aggregate.specs.declared.Config.{Config}
 use Rattle.station.specs.declared.Station.{Station}
 use Rattle.schedule.specs.declared.Step.{Step}
 use Rattle.schedule.specs.declared.rows.Sizes.{Sizes}
-use Rattle.schedule.specs.Rows.{sizesWithout, others}
+use Rattle.schedule.specs.internal.Rows.{sizesWithout, others}
 use Rattle.schedule.proofs.Resizing.{rows-anew, hold-those, others-or-two}
 use Rattle.rendezvous.specs.declared.listing.States.{States}
 use Rattle.rendezvous.specs.declared.listing.Sends.{Sends}
 use Rattle.rendezvous.specs.Figure.{wake, pass, answer}
-use Rattle.rendezvous.specs.Receivers.{takersIn, keptAt, Agree, Renewed, HasRows, HoldTakers, HoldSome}
+use Rattle.rendezvous.specs.internal.Receivers.{takersIn, keptAt, Agree, Renewed, HasRows, HoldTakers, HoldSome}
 use Rattle.rendezvous.proofs.Kept.{stored-sized, stored-other}
 use Rattle.rendezvous.proofs.Filling.{and-lt}
 

@@ -21,7 +21,7 @@ use Rattle.schedule.proofs.Answers.{allowed-parts}
 use Rattle.stations.proofs.Laws.{replaced-kept, replaced-bounded}
 use Rattle.rendezvous.specs.declared.Net.{Net}
 use Rattle.rendezvous.specs.Net.{station, withOne, withTwo, wellFormed}
-use Rattle.rendezvous.specs.Figure.{wake, pass, answer, starts, wakes, finishes, mayStep, applied}
+use Rattle.rendezvous.specs.Figure.{wake, pass, answer, starts, wakes, finishes, mayStep, assigned}
 use Rattle.rendezvous.specs.Rules.{rules}
 use Rattle.rendezvous.proofs.Guards.{wake-guard}
 use Rattle.rendezvous.proofs.Laws.{k-most, formed-at}
@@ -59,8 +59,8 @@ module _ (net : Net) (f : wellFormed net ≡ true) (j i : ℕ) (lj : j < net .co
       (ended-formed t j (station net j) (at j lj) ∙ sym (facts t j (station net j) (at j lj) .held-bounded)))
 
   applied-decide : (kind : ℕ) → (eqb kind wake ≡ true → j ≡ i → ⊥) → (eqb kind wake ≡ false → eqb kind pass ≡ false → eqb kind answer ≡ false → j ≡ i)
-      → Decides (applied net kind j i) i
-  unfolding applied
+      → Decides (assigned net kind j i) i
+  unfolding assigned
   applied-decide kind apart alone =
       by-bool (eqb kind wake) (λ w. rw w (wakes-decide (apart w)))
       (λ w. by-bool (eqb kind pass)

@@ -20,13 +20,14 @@ use Rattle.bitset.proofs.Unions.{put-set}
 use Rattle.aggregate.specs.Aggregate.{bounded, joinable}
 use Rattle.station.specs.declared.Station.{Station}
 use Rattle.station.specs.Events.{asleep, active}
-use Rattle.stations.specs.Stations.{outside}
+use Rattle.stations.specs.Stations.{blank}
 use Rattle.schedule.specs.declared.Step.{Step}
 use Rattle.schedule.specs.declared.rows.Drawn.{Drawn}
 use Rattle.schedule.specs.declared.rows.Drawn.the-variants as drawn
 use Rattle.schedule.specs.declared.rows.Sizes.{Sizes}
 use Rattle.schedule.specs.Rules.{allowed}
-use Rattle.schedule.specs.Rows.{rowAt, pickedBySize, Filled, others}
+use Rattle.schedule.specs.Rows.{rowAt, pickedBySize}
+use Rattle.schedule.specs.internal.Rows.{Filled, others}
 use Rattle.schedule.specs.Draws.{runOn}
 use Rattle.schedule.proofs.Answers.{allowed-parts}
 use Rattle.schedule.proofs.Listing.{range-bounds, Bounds}
@@ -37,8 +38,8 @@ use Rattle.rendezvous.specs.declared.listing.States.{States}
 use Rattle.rendezvous.specs.declared.listing.Sends.{Sends}
 use Rattle.rendezvous.specs.declared.figure.Two.{Two}
 use Rattle.rendezvous.specs.Net.{station, wellFormed, withOne, withTwo}
-use Rattle.rendezvous.specs.Figure.{wake, pass, answer, applied, metBy}
-use Rattle.rendezvous.specs.Receivers.{inState, statesOf, restated, keptAt, takersIn, Agree, Renewed, AreSends, HoldTakers, HoldSome}
+use Rattle.rendezvous.specs.Figure.{wake, pass, answer, assigned}
+use Rattle.rendezvous.specs.internal.Receivers.{inState, statesOf, restated, keptAt, takersIn, Agree, Renewed, AreSends, HoldTakers, HoldSome, metBy}
 use Rattle.rendezvous.specs.Rules.{rules}
 use Rattle.rendezvous.proofs.Laws.{k-most, sums-joinable}
 use Rattle.rendezvous.proofs.Places.{two-receiver}
@@ -56,10 +57,10 @@ pub record Known (net : Net) (kept : List ℕ) (states : States) : Type 0 where
 -- one station comes to be s
 module _ (net : Net) (few : net .config .k ≤ 64) (full : length (net .stations) ≡ 64) (j : ℕ) (low : j < net .config .k) (s : Station) where
   own : station (withOne net j s) j ≡ s
-  own = getD-set-same (net .stations) j s outside (omega (arith, full, low, few))
+  own = getD-set-same (net .stations) j s blank (omega (arith, full, low, few))
 
   other : (x : ℕ) → (x ≡ j → ⊥) → station (withOne net j s) x ≡ station net x
-  other x n = getD-set-other (net .stations) j x s outside n
+  other x n = getD-set-other (net .stations) j x s blank n
 
   in-state-one : (state : ℕ) → put j (eqb (s .state) state) (inState net state) ≡ inState (withOne net j s) state
   unfolding inState
@@ -83,7 +84,7 @@ module _ (net : Net) (few : net .config .k ≤ 64) (full : length (net .stations
 pub made-is : (net : Net) (s : Step) {two : Two} → allowed rules net s ≡ true
     → two ≡ metBy (net .config) (s .kind) (s .sender) (s .receiver) (station net (s .sender)) (station net (s .receiver))
     → withTwo net (s .sender) (two .sender) (s .receiver) (two .receiver) ≡ rules .apply net s
-unfolding metBy applied
+unfolding metBy assigned
 made-is net s a u =
     let kind = s .kind in
     let j = s .sender in

@@ -11,7 +11,7 @@ use Rattle.station.specs.declared.Station.{Station}
 use Rattle.rendezvous.specs.declared.Net.{Net}
 use Rattle.rendezvous.specs.declared.listing.Sends.{Sends}
 use Rattle.rendezvous.specs.Net.{station, withOne}
-use Rattle.rendezvous.specs.Receivers.{sendsOf, sentIn, keptAt, withSends, AreSends}
+use Rattle.rendezvous.specs.internal.Receivers.{sendsOf, sentIn, keptAt, withSends, AreSends}
 
 -- what a station may send, of its three words
 abbrev three : ℕ → ℕ → ℕ → Sends

@@ -11,7 +11,8 @@ use lib.Bits.{bitAnd, and-le-r}
 use lib.Pow.{pow-mono}
 use borrow.Author.Tests.{ne-eqb, le-leb, lt-ltb, ltb-true}
 use Rattle.finite.proofs.Cases.{by-bool, by-eq, eqb-self}
-use Rattle.bitset.specs.Set.{member, bitIf, setOf}
+use Rattle.bitset.specs.Set.{member, bitIf}
+use Rattle.bitset.specs.internal.Selected.{setOf}
 use Rattle.bitset.proofs.Laws.{same-members, member-without, member-empty}
 use Rattle.bitset.proofs.Selected.{set-lt, set-has, bit-has, member-and}
 use Rattle.aggregate.specs.declared.Config.{Config}
@@ -20,7 +21,7 @@ use Rattle.station.specs.Events.{asleep, active, maySendStart, mayReport, mayAn
 use Rattle.schedule.specs.declared.rows.Sizes.{Sizes}
 use Rattle.schedule.specs.Rules.{inRange, allowed}
 use Rattle.schedule.specs.Listing.{step}
-use Rattle.schedule.specs.Rows.{Filled}
+use Rattle.schedule.specs.internal.Rows.{Filled}
 use Rattle.schedule.proofs.Listing.{allowed-low}
 use Rattle.schedule.proofs.RowLists.{report-row}
 use Rattle.rendezvous.specs.declared.Net.{Net}
@@ -29,7 +30,7 @@ use Rattle.rendezvous.specs.declared.listing.Sends.{Sends}
 use Rattle.rendezvous.specs.Net.{station}
 use Rattle.rendezvous.specs.Figure.{wake, pass, answer, report}
 use Rattle.rendezvous.specs.Rules.{rules}
-use Rattle.rendezvous.specs.Receivers.{inState, statesOf, startable, answerable, sendsOf, sentIn, takersIn, HoldTakers}
+use Rattle.rendezvous.specs.internal.Receivers.{inState, statesOf, startable, answerable, sendsOf, sentIn, takersIn, HoldTakers}
 use Rattle.rendezvous.proofs.Guards.{wake-guard, pass-guard, answer-guard, report-guard}
 
 -- a start's tests: as its set has them, and as its guard

@@ -12,9 +12,9 @@ abbrev pub freshOn : Map → Net
 freshOn m = freshNet (configOf m) (m .counts) (m .neighbours)
 
 -- the net handed back with a refusal: of no stations
-abbrev pub unopened : Net
-unopened = record { config = record { k = 0 }; stations = replicate 64 blank }
+abbrev pub emptyNet : Net
+emptyNet = record { config = record { k = 0 }; stations = replicate 64 blank }
 
 -- "a map handed over goes 3, 7 to 10" (Causes and numbers)
-abbrev pub opening : Map → Opening Net
-opening m = openingBy freshOn unopened m
+abbrev pub rendezvousOpening : Map → Opening Net
+rendezvousOpening m = openingBy freshOn emptyNet m

@@ -12,11 +12,11 @@ ghost use mathlib.Core.Path.{_≡_};
 ghost use mathlib.Core.Bool.{true};
 ghost use Rattle.aggregate.specs.Aggregate.{rootOf, joinable};
 ghost use Rattle.schedule.specs.Rules.{stepInRange};
-ghost use Rattle.rendezvous.specs.Figure.{report, mayStep, metBy};
-ghost use Rattle.rendezvous.specs.Rules.{kinds};
+ghost use Rattle.rendezvous.specs.Figure.{report, mayStep};
+ghost use Rattle.rendezvous.specs.internal.Receivers.{metBy};
 
 pub(crate) fn is_in_range(t: Config, step: Step) -> bool
-    ensures { λ r. ⌜ r ≡ stepInRange kinds report (t .k) (rootOf t) step ⌝ }
+    ensures { λ r. ⌜ r ≡ stepInRange 4 report (t .k) (rootOf t) step ⌝ }
 {
     stations::is_in_range(KINDS, REPORT, t.k, aggregate::root(t), step)
 }

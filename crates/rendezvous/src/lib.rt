@@ -13,7 +13,7 @@ ghost use mathlib.Core.Bool.{false};
 ghost use Rattle.refusal.specs.Refusal.{numberOf};
 ghost use Rattle.refusal.specs.declared.Refusal.the-variants.{OutOfForm};
 ghost use Rattle.linemap.specs.Openings.{openingOf};
-ghost use Rattle.schedule.specs.Outcome.{refused, outcomeOf, runOutcomeOf};
+ghost use Rattle.schedule.specs.Outcome.{stepRefused, stepOutcomeOf, runOutcomeOf};
 ghost use Rattle.schedule.specs.Draws.{stepOn, drawOn, runOn};
 ghost use Rattle.rendezvous.specs.Net.{wellFormed};
 ghost use Rattle.rendezvous.specs.Rules.{rules};
@@ -62,7 +62,7 @@ pub struct Opened {
 
 // The net of no stations.
 fn unopened() -> Net
-    ensures { λ r. ⌜ r ≡ Opening.unopened ⌝ }
+    ensures { λ r. ⌜ r ≡ Opening.emptyNet ⌝ }
 {
     let none = stations::blank();
     let stations = [none; 64];
@@ -74,7 +74,7 @@ fn unopened() -> Net
 
 // The fresh net of an accepted map; any other opens none.
 pub fn fresh(m: Map) -> Opened
-    ensures { λ r. ⌜ openingOf (r .verdict) (r .net) ≡ Opening.opening m ⌝ }
+    ensures { λ r. ⌜ openingOf (r .verdict) (r .net) ≡ Opening.rendezvousOpening m ⌝ }
 {
     let verdict = linemap::accept(m);
     if let Verdict::Refused(fault) = verdict {
@@ -106,7 +106,7 @@ fn is_well_formed(net: Net) -> bool
 
 // A refusal hands the net back as it was.
 fn refuse(net: Net, why: Refusal) -> Stepped
-    ensures { λ r. ⌜ outcomeOf (r .answer) (r .net) ≡ refused why net ⌝ }
+    ensures { λ r. ⌜ stepOutcomeOf (r .answer) (r .net) ≡ stepRefused why net ⌝ }
 {
     Stepped {
         answer: Answer::Refused(why),
@@ -116,7 +116,7 @@ fn refuse(net: Net, why: Refusal) -> Stepped
 
 // One step: refused by 11, 12 or 13, or made.
 pub fn step(net: Net, step: Step) -> Stepped
-    ensures { λ r. ⌜ outcomeOf (r .answer) (r .net) ≡ stepOn rules net step ⌝ }
+    ensures { λ r. ⌜ stepOutcomeOf (r .answer) (r .net) ≡ stepOn rules net step ⌝ }
 {
     if !is_well_formed(net) {
         return refuse(net, Refusal::OutOfForm);
@@ -146,7 +146,7 @@ pub fn step(net: Net, step: Step) -> Stepped
 
 // The step that a draw picks, made: refused by 11, or by 14 where no step is allowed.
 pub fn draw(net: Net, d: u16) -> Stepped
-    ensures { λ r. ⌜ outcomeOf (r .answer) (r .net) ≡ drawOn rules net d ⌝ }
+    ensures { λ r. ⌜ stepOutcomeOf (r .answer) (r .net) ≡ drawOn rules net d ⌝ }
 {
     if !is_well_formed(net) {
         return refuse(net, Refusal::OutOfForm);

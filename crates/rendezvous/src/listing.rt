@@ -8,9 +8,9 @@ use station::Station;
 ghost use mathlib.Core.Path.{_≡_};
 ghost use Prim.Native.Nat.{_≤_, _<_};
 ghost use lib.ListN.{length};
-ghost use Rattle.schedule.specs.Rows.{sizesWithout, others};
-ghost use Rattle.rendezvous.specs.Receivers.{statesOf, restated, sendsOf, sentIn, keptAt, withSends};
-ghost use Rattle.rendezvous.specs.Receivers.{Agree, Renewed, AreSends, HasRows, HoldTakers, HoldSome};
+ghost use Rattle.schedule.specs.internal.Rows.{sizesWithout, others};
+ghost use Rattle.rendezvous.specs.internal.Receivers.{statesOf, restated, sendsOf, sentIn, keptAt, withSends};
+ghost use Rattle.rendezvous.specs.internal.Receivers.{Agree, Renewed, AreSends, HasRows, HoldTakers, HoldSome};
 
 // The stations that can take a start, and of these the ones that can take an answer.
 pub(crate) struct States {

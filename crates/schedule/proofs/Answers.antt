@@ -18,20 +18,20 @@ use Rattle.schedule.specs.Listing.{candidates, listed}
 use Rattle.schedule.specs.Draws.{picked}
 use Rattle.schedule.proofs.Parts.{select-passes}
 use Rattle.schedule.proofs.Picks.{picked-passes}
-use Rattle.schedule.specs.Outcome.{Outcome, outcomeOf, runNumberOf}
+use Rattle.schedule.specs.Outcome.{StepOutcome, stepOutcomeOf, runNumberOf}
 
-module _ {A : Type 0} {a : Answer} {o : Outcome A} (net : A) (e : outcomeOf a net ≡ o) where
+module _ {A : Type 0} {a : Answer} {o : StepOutcome A} (net : A) (e : stepOutcomeOf a net ≡ o) where
   pub answer-made : {s : Step} → a ≡ Made s → (o .made ≡ s ∷ []) × (o .net ≡ net)
-  answer-made q = let f = rw q at e in (sym (ap (λ (x : Outcome A). x .made) f), sym (ap (λ (x : Outcome A). x .net) f))
+  answer-made q = let f = rw q at e in (sym (ap (λ (x : StepOutcome A). x .made) f), sym (ap (λ (x : StepOutcome A). x .net) f))
 
   pub answer-refused : {r : Refusal} → a ≡ Refused r → o .made ≡ []
-  answer-refused q = let f = rw q at e in sym (ap (λ (x : Outcome A). x .made) f)
+  answer-refused q = let f = rw q at e in sym (ap (λ (x : StepOutcome A). x .made) f)
 
-pub outcome-pins : {A : Type 0} (a b : Answer) (m n : A) → outcomeOf a m ≡ outcomeOf b n → (a ≡ b) × (m ≡ n)
-outcome-pins (Made s) (Made t) m n e = let made = ap (λ (x : Outcome _). x .made) e in (cc, ap (λ (x : Outcome _). x .net) e)
-outcome-pins (Made s) (Refused r) m n e = absurd (number-not-zero r (sym (ap (λ (x : Outcome _). x .number) e)))
-outcome-pins (Refused r) (Made s) m n e = absurd (number-not-zero r (ap (λ (x : Outcome _). x .number) e))
-outcome-pins (Refused q) (Refused r) m n e = (ap Refused (number-pins q r (ap (λ (x : Outcome _). x .number) e)), ap (λ (x : Outcome _). x .net) e)
+pub outcome-pins : {A : Type 0} (a b : Answer) (m n : A) → stepOutcomeOf a m ≡ stepOutcomeOf b n → (a ≡ b) × (m ≡ n)
+outcome-pins (Made s) (Made t) m n e = let made = ap (λ (x : StepOutcome _). x .made) e in (cc, ap (λ (x : StepOutcome _). x .net) e)
+outcome-pins (Made s) (Refused r) m n e = absurd (number-not-zero r (sym (ap (λ (x : StepOutcome _). x .number) e)))
+outcome-pins (Refused r) (Made s) m n e = absurd (number-not-zero r (ap (λ (x : StepOutcome _). x .number) e))
+outcome-pins (Refused q) (Refused r) m n e = (ap Refused (number-pins q r (ap (λ (x : StepOutcome _). x .number) e)), ap (λ (x : StepOutcome _). x .net) e)
 
 pub run-answer-pins : (a b : RunAnswer) → runNumberOf a ≡ runNumberOf b → a ≡ b
 run-answer-pins run.Stopped run.Stopped e = refl

@@ -8,14 +8,16 @@ use native.Mathlib.Numerals.{add-one}
 use native.Mathlib.Omega.{arith}
 use lib.ListN.{length, getD, set, length-set, length-append}
 use lib.Seq.{getD-set-same, getD-set-other}
-use Rattle.finite.specs.Sum.{addition, sumTo}
+use Rattle.finite.specs.Sum.{foldTo}
+use Rattle.finite.specs.internal.Monoid.{addition, sumTo}
 use Rattle.finite.proofs.Sums.{sum-ext, sum-first}
 use Rattle.finite.proofs.Cases.{by-eq}
 use Rattle.bitset.specs.Set.{size}
 use Rattle.bitset.proofs.Laws.{size-le}
 use Rattle.schedule.specs.declared.rows.Sizes.{Sizes}
-use Rattle.schedule.specs.Listing.{count, range, select}
-use Rattle.schedule.specs.Rows.{stepsFrom, stepsOfKind, rowAt, fourSet, inRows, sizeOf, sizesOf, added}
+use Rattle.schedule.specs.Listing.{numbersFrom, range, select}
+use Rattle.schedule.specs.Rows.{stepsFrom, stepsOfKind, rowAt, inRows, added}
+use Rattle.schedule.specs.internal.Rows.{fourSet, sizeOf, sizesOf}
 use Rattle.schedule.specs.Rows as rows
 use Rattle.schedule.proofs.Parts.{select-append}
 use Rattle.schedule.proofs.RowLists.{row-length}
@@ -125,7 +127,7 @@ module _ (row : ℕ → ℕ → ℕ) where
     pub fourth : (z .fourth ≡ sum 4 n) × (z .fourth ≤ 64 * n)
 
   pub counted-none : Counted 0 rows.none
-  unfolding sumTo
+  unfolding foldTo
   counted-none =
       record {
         small = λ kind s h l m. absurd (let z : ⊥ = omega arith in z);
@@ -138,7 +140,7 @@ module _ (row : ℕ → ℕ → ℕ) where
   -- one sum more
   sum-next : {kind n x a : ℕ} → n < 64 → a < 2 ^ 64 → a ≡ row kind n → (x ≡ sum kind n) × (x ≤ 64 * n)
       → ((x + size a) % 2 ^ 32 ≡ sum kind (n + 1)) × ((x + size a) % 2 ^ 32 ≤ 64 * (n + 1))
-  unfolding sumTo
+  unfolding foldTo
   sum-next {kind} {n} {x} {a} low fits e h =
       let most : size a ≤ 64 = size-le 64 a (omega arith) fits in
       let whole : (x + size a) % 2 ^ 32 ≡ x + size a = mod-eq-of-lt (omega (arith, most, h .1, low)) in
@@ -165,12 +167,12 @@ module _ (row : ℕ → ℕ → ℕ) where
 
   -- the steps of a kind, row by row
   length-rows : (l : List ℕ) (kind a n : ℕ) → ((s : ℕ) → a ≤ s → s < a + n → rowAt l kind s < 2 ^ 64)
-      → length (select (inRows l) (flatMap (λ (s : ℕ). stepsFrom 64 kind s 0) (count a n))) ≡ sumTo addition n (λ i. size (rowAt l kind (a + i)))
-  unfolding count flatMap select sumTo
+      → length (select (inRows l) (flatMap (λ (s : ℕ). stepsFrom 64 kind s 0) (numbersFrom a n))) ≡ sumTo addition n (λ i. size (rowAt l kind (a + i)))
+  unfolding numbersFrom flatMap select foldTo
   length-rows l kind a zero small = refl
   length-rows l kind a (suc n) small =
       let g : ℕ → ℕ = λ i. size (rowAt l kind (a + i)) in
-      let rest : length (select (inRows l) (flatMap (λ (s : ℕ). stepsFrom 64 kind s 0) (count (suc a) n))) ≡ sumTo addition n (λ i. g (suc i)) =
+      let rest : length (select (inRows l) (flatMap (λ (s : ℕ). stepsFrom 64 kind s 0) (numbersFrom (suc a) n))) ≡ sumTo addition n (λ i. g (suc i)) =
       length-rows l kind (suc a) n (λ s h m. small s (omega arith) (omega arith))
       ∙ sum-ext addition n _ _ (λ i m. ap (λ (x : ℕ). size (rowAt l kind x)) (omega arith)) in
       let first : g 0 ≡ length (select (inRows l) (stepsFrom 64 kind a 0)) =

@@ -13,9 +13,10 @@ use Rattle.schedule.specs.declared.rows.Drawn.the-variants as drawn
 use Rattle.schedule.specs.declared.rows.Sizes.{Sizes}
 use Rattle.schedule.specs.Rules.{Rules, allowed}
 use Rattle.schedule.specs.Listing.{listed}
-use Rattle.schedule.specs.Outcome.{accepted, refused}
+use Rattle.schedule.specs.Outcome.{stepMade, stepRefused}
 use Rattle.schedule.specs.Draws.{picked, drawOn}
-use Rattle.schedule.specs.Rows.{totalOf, pickedBySize, Filled}
+use Rattle.schedule.specs.Rows.{totalOf, pickedBySize}
+use Rattle.schedule.specs.internal.Rows.{Filled}
 use Rattle.schedule.proofs.RowLists.{rows-list}
 use Rattle.schedule.proofs.Sized.{total-listed, picked-by-size}
 use Rattle.schedule.proofs.Outcomes.{draw-nothing, draw-picked}
@@ -43,8 +44,8 @@ module _ {Net : Type 0} (R : Rules Net) (net : Net) {rows : List ℕ} {z : Sizes
     drawn-allowed {s} q = picked-allowed R net s d (sym of-list ∙ q)
 
     module _ (f : R .wellFormed net ≡ true) where
-      pub drawn-nothing : p ≡ drawn.Nothing → drawOn R net d ≡ refused NothingAllowed net
+      pub drawn-nothing : p ≡ drawn.Nothing → drawOn R net d ≡ stepRefused NothingAllowed net
       drawn-nothing q = draw-nothing R net d f (sym of-list ∙ q)
 
-      pub drawn-accepted : {s : Step} → p ≡ drawn.Step s → drawOn R net d ≡ accepted s (R .apply net s)
+      pub drawn-accepted : {s : Step} → p ≡ drawn.Step s → drawOn R net d ≡ stepMade s (R .apply net s)
       drawn-accepted {s} q = draw-picked R net d f s (sym of-list ∙ q)

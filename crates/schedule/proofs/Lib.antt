@@ -12,3 +12,4 @@ pub mod Sized
 pub mod Counting
 pub mod Resizing
 pub mod Answers
+pub mod Resting

@@ -1,7 +1,7 @@
 -- The list of allowed steps has every allowed step and no other, so a net is quiescent just where no step is allowed in it: each numeral
 -- below a bound stands in the range, so each step in range among the candidates. Assumes nothing.
 use mathlib.Core.Path.{_≡_, refl, sym, _∙_, ap}
-use mathlib.Core.Bool.{Bool, true, false, not, _&&_, _||_, and-false}
+use mathlib.Core.Bool.{Bool, true, false, not, _&&_, _||_, and-false, cond}
 use mathlib.Core.Logic.{_↔_}
 use mathlib.Core.List.{List, [], _∷_, flatMap, List·Memᴰ, List·Memᴰ·head, List·Memᴰ·tail, List·Memᴰ·not-nil, Memᴰ·append-left, Memᴰ·append-right, Memᴰ·map}
 use Prim.Native.Nat.{ℕ, zero, suc, _+_, _-_, _≤_, _<_}
@@ -9,14 +9,14 @@ use native.Mathlib.Omega.{arith}
 use lib.Dec.{leb, ltb, eqb}
 use borrow.Author.Tests.{leb-true, ltb-true, eqb-true, lt-ltb, eq-eqb}
 use Rattle.finite.proofs.Cases.{clash, by-bool, by-eq, and-both}
-use Rattle.wave.specs.Claim.{AtRest}
+use Rattle.wave.specs.internal.Claim.{AtRest}
 use Rattle.schedule.specs.declared.Step.{Step}
 use Rattle.schedule.specs.Rules.{Rules, inRange, allowed}
-use Rattle.schedule.specs.Listing.{count, range, keepIf, select, step, candidates, isEmpty, listed, quiescent}
+use Rattle.schedule.specs.Listing.{numbersFrom, range, select, step, candidates, isEmpty, listed, quiescent}
 
 module _ {A : Type 0} (p : A → Bool) (a : A) where
   select-has : (l : List A) → p a ≡ true → List·Memᴰ a l → List·Memᴰ a (select p l)
-  unfolding select keepIf
+  unfolding select
   select-has [] t m = m
   select-has (x ∷ l) t (List·Memᴰ·head e) = let u : p x ≡ true = ap p (sym e) ∙ t in rw u (List·Memᴰ·head e)
   select-has (x ∷ l) t (List·Memᴰ·tail m) =
@@ -24,11 +24,11 @@ module _ {A : Type 0} (p : A → Bool) (a : A) where
       by-bool (p x) (λ b. rw b (List·Memᴰ·tail i)) (λ b. rw b i)
 
   select-passes : (l : List A) → List·Memᴰ a (select p l) → p a ≡ true
-  unfolding select keepIf
+  unfolding select
   select-passes [] m = absurd (List·Memᴰ·not-nil m)
   select-passes (x ∷ l) m = go (p x) refl m (select-passes l)
     where
-      go : (b : Bool) → p x ≡ b → List·Memᴰ a (keepIf b x (select p l)) → (List·Memᴰ a (select p l) → p a ≡ true) → p a ≡ true
+      go : (b : Bool) → p x ≡ b → List·Memᴰ a (cond b (x ∷ select p l) (select p l)) → (List·Memᴰ a (select p l) → p a ≡ true) → p a ≡ true
       go true e (List·Memᴰ·head q) f = ap p q ∙ e
       go true e (List·Memᴰ·tail n) f = f n
       go false e n f = f n
@@ -39,8 +39,8 @@ flat-has f b a [] i m = absurd (List·Memᴰ·not-nil m)
 flat-has f b a (x ∷ l) i (List·Memᴰ·head e) = Memᴰ·append-left (flatMap f l) (rw e at i)
 flat-has f b a (x ∷ l) i (List·Memᴰ·tail m) = Memᴰ·append-right (f x) (flat-has f b a l i m)
 
-count-has : (x a n : ℕ) → a ≤ x → x < a + n → List·Memᴰ x (count a n)
-unfolding count
+count-has : (x a n : ℕ) → a ≤ x → x < a + n → List·Memᴰ x (numbersFrom a n)
+unfolding numbersFrom
 count-has x a zero h g = absurd (let z : ⊥ = omega arith in z)
 count-has x a (suc n) h g =
     let further = count-has x (suc a) n in

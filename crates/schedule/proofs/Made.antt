@@ -9,13 +9,13 @@ use native.Mathlib.Nat.{mod-lt}
 use native.Mathlib.Omega.{arith}
 use lib.ListN.{length, getD}
 use Rattle.finite.proofs.Cases.{by-bool, by-sum}
-use Rattle.wave.specs.Claim.{Runs, reached}
+use Rattle.wave.specs.internal.Claim.{Runs, reached}
 use Rattle.refusal.specs.declared.Refusal.{Refusal}
 use Rattle.refusal.specs.declared.Refusal.the-variants.{OutOfForm, NothingAllowed}
 use Rattle.schedule.specs.declared.Step.{Step}
 use Rattle.schedule.specs.Rules.{Rules, inRange, allowed}
 use Rattle.schedule.specs.Listing.{listed, isEmpty, quiescent}
-use Rattle.schedule.specs.Outcome.{Outcome, accepted, refused}
+use Rattle.schedule.specs.Outcome.{StepOutcome, stepMade, stepRefused}
 use Rattle.schedule.specs.Draws.{stepOn, picked, drawFrom, drawOn, runMade, runNet, stopped, runOn}
 use Rattle.schedule.specs.Calls.{Call, single, draw, run, callMade, callNet, callsMade, callsNet}
 use Rattle.schedule.proofs.Listing.{listed-complete, listed-allowed}
@@ -58,10 +58,10 @@ module _ {Net : Type 0} (R : Rules Net) where
       (λ f. rw f (nothing-made net))
 
   -- a draw is refused in a net that is not well-formed or is quiescent, and else makes an entry of the list
-  unfoldable pub DrawComes : Net → Outcome Net → Type 0
+  unfoldable pub DrawComes : Net → StepOutcome Net → Type 0
   DrawComes net o =
-      ((r : Refusal) × (o ≡ refused r net) × ((R .wellFormed net ≡ false) ⊎ (quiescent R net ≡ true)))
-      ⊎ ((s : Step) × (o ≡ accepted s (R .apply net s)) × Listed net s)
+      ((r : Refusal) × (o ≡ stepRefused r net) × ((R .wellFormed net ≡ false) ⊎ (quiescent R net ≡ true)))
+      ⊎ ((s : Step) × (o ≡ stepMade s (R .apply net s)) × Listed net s)
 
   list-cases : (net : Net) (d : ℕ) (l : List Step) → R .wellFormed net ≡ true → listed R net ≡ l → DrawComes net (drawFrom R net (picked l d))
   unfolding picked quiescent isEmpty DrawComes
@@ -74,7 +74,7 @@ module _ {Net : Type 0} (R : Rules Net) where
   unfolding drawOn DrawComes
   draw-cases net d = go (R .wellFormed net) refl
     where
-      go : (b : Bool) → R .wellFormed net ≡ b → DrawComes net (cond b (drawFrom R net (picked (listed R net) d)) (refused OutOfForm net))
+      go : (b : Bool) → R .wellFormed net ≡ b → DrawComes net (cond b (drawFrom R net (picked (listed R net) d)) (stepRefused OutOfForm net))
       go true f = list-cases net d (listed R net) f refl
       go false f = inl (OutOfForm, refl, inl f)
 
@@ -106,7 +106,7 @@ module _ {Net : Type 0} (R : Rules Net) where
       let after : Makes (R .apply net (w .0)) (runMade R (R .apply net (w .0)) ds) (runNet R (R .apply net (w .0)) ds) = rw (w .1) at further in
       rw (w .1) (makes-append net _ (w .0 ∷ []) _ _ (one-made net (w .0) (w .2)) after))
 
-  stopped-net : (net : Net) (n : ℕ) → stopped R net n .net ≡ net
+  pub stopped-net : (net : Net) (n : ℕ) → stopped R net n .net ≡ net
   unfolding stopped
   stopped-net net n = by-bool (R .wellFormed net) (λ f. rw f) (λ f. rw f)
 

@@ -17,41 +17,41 @@ use Rattle.schedule.specs.declared.Step.{Step}
 use Rattle.schedule.specs.declared.rows.Drawn.the-variants as drawn
 use Rattle.schedule.specs.Rules.{Rules, inRange}
 use Rattle.schedule.specs.Listing.{isEmpty, listed, quiescent}
-use Rattle.schedule.specs.Outcome.{accepted, refused, RunOutcome}
+use Rattle.schedule.specs.Outcome.{stepMade, stepRefused, RunOutcome}
 use Rattle.schedule.specs.Draws.{stepOn, picked, drawOn, runMade, runNet, stopped, runOn}
 
 module _ {Net : Type 0} (R : Rules Net) where
   -- the outcomes of a single step
   module _ (net : Net) (s : Step) where
-    pub step-unformed : R .wellFormed net ≡ false → stepOn R net s ≡ refused OutOfForm net
+    pub step-unformed : R .wellFormed net ≡ false → stepOn R net s ≡ stepRefused OutOfForm net
     unfolding stepOn
     step-unformed f = rw f
 
     module _ (f : R .wellFormed net ≡ true) where
-      pub step-outside : inRange R net s ≡ false → stepOn R net s ≡ refused OutOfRange net
+      pub step-outside : inRange R net s ≡ false → stepOn R net s ≡ stepRefused OutOfRange net
       unfolding stepOn
       step-outside r = rw (f, r)
 
-      pub step-barred : inRange R net s ≡ true → R .guard net s ≡ false → stepOn R net s ≡ refused NotAllowed net
+      pub step-barred : inRange R net s ≡ true → R .guard net s ≡ false → stepOn R net s ≡ stepRefused NotAllowed net
       unfolding stepOn
       step-barred r g = rw (f, r, g)
 
-      pub step-taken : inRange R net s ≡ true → R .guard net s ≡ true → stepOn R net s ≡ accepted s (R .apply net s)
+      pub step-taken : inRange R net s ≡ true → R .guard net s ≡ true → stepOn R net s ≡ stepMade s (R .apply net s)
       unfolding stepOn
       step-taken r g = rw (f, r, g)
 
   -- the outcomes of a draw
   module _ (net : Net) (d : ℕ) where
-    pub draw-unformed : R .wellFormed net ≡ false → drawOn R net d ≡ refused OutOfForm net
+    pub draw-unformed : R .wellFormed net ≡ false → drawOn R net d ≡ stepRefused OutOfForm net
     unfolding drawOn
     draw-unformed f = rw f
 
     module _ (f : R .wellFormed net ≡ true) where
-      pub draw-nothing : picked (listed R net) d ≡ drawn.Nothing → drawOn R net d ≡ refused NothingAllowed net
+      pub draw-nothing : picked (listed R net) d ≡ drawn.Nothing → drawOn R net d ≡ stepRefused NothingAllowed net
       unfolding drawOn
       draw-nothing e = rw (f, e)
 
-      pub draw-picked : (s : Step) → picked (listed R net) d ≡ drawn.Step s → drawOn R net d ≡ accepted s (R .apply net s)
+      pub draw-picked : (s : Step) → picked (listed R net) d ≡ drawn.Step s → drawOn R net d ≡ stepMade s (R .apply net s)
       unfolding drawOn
       draw-picked s e = rw (f, e)
 

@@ -1,5 +1,5 @@
 -- Laws of the parts of the list of steps: one more kind, sender or receiver, entries by number, and lengths. Assumes nothing.
-use mathlib.Core.Bool.{Bool, true, false}
+use mathlib.Core.Bool.{Bool, true, false, cond}
 use mathlib.Core.Path.{_≡_, refl, sym, _∙_, ap}
 use mathlib.Core.List.{List, [], _∷_, _++_, flatMap}
 use Prim.Native.Nat.{ℕ, zero, suc, _+_, _-_, _*_, _≤_, _<_}
@@ -9,19 +9,20 @@ use native.Mathlib.Omega.{arith}
 use lib.ListN.{length, getD, length-append, length-map}
 use Rattle.schedule.specs.declared.Step.{Step}
 use Rattle.schedule.specs.declared.rows.Entry.the-variants.{At, Beyond}
-use Rattle.schedule.specs.Listing.{count, range, keepIf, select, step, candidates}
-use Rattle.schedule.specs.Rows.{stepsFrom, stepsOfKind, stepsOf, entry}
+use Rattle.schedule.specs.Listing.{numbersFrom, range, select, step, candidates}
+use Rattle.schedule.specs.Rows.{stepsFrom, stepsOfKind, entry}
+use Rattle.schedule.specs.internal.Rows.{stepsOf}
 
 pub candidates-are : (kinds k : ℕ) → candidates kinds k ≡ stepsOf k kinds k 1
 unfolding candidates stepsOf stepsOfKind stepsFrom
 candidates-are kinds k = refl
 
 range-none : (a b : ℕ) → b ≤ a → range a b ≡ []
-unfolding range count
-range-none a b h = ap (count a) (let z : b - a ≡ 0 = omega arith in z)
+unfolding range numbersFrom
+range-none a b h = ap (numbersFrom a) (let z : b - a ≡ 0 = omega arith in z)
 
 range-more : (a b : ℕ) → a < b → range a b ≡ a ∷ range (a + 1) b
-unfolding range count
+unfolding range numbersFrom
 range-more a b h =
     let e : b - a ≡ suc (b - suc a) = omega arith in
     rw (e, add-one a)
@@ -54,45 +55,45 @@ module _ (w : ℕ) where
 -- entries of the steps that pass a test
 module _ (p : Step → Bool) where
   pub entry-met : (s : Step) (l : List Step) (n : ℕ) → p s ≡ true → n ≡ 0 → entry (select p (s ∷ l)) n ≡ At s
-  unfolding entry select keepIf
+  unfolding entry select
   entry-met s l n h z = rw (h, z)
 
   pub entry-passed : (s : Step) (l : List Step) (n : ℕ) → p s ≡ true → (n ≡ 0 → ⊥) → entry (select p (s ∷ l)) n ≡ entry (select p l) (n - 1)
-  unfolding entry select keepIf
+  unfolding entry select
   entry-passed s l zero h z = absurd (z refl)
   entry-passed s l (suc n) h z =
       let e : suc n - 1 ≡ n = omega arith in
       rw (h, e)
 
   pub entry-skipped : (s : Step) (l : List Step) (n : ℕ) → p s ≡ false → entry (select p (s ∷ l)) n ≡ entry (select p l) n
-  unfolding entry select keepIf
+  unfolding entry select
   entry-skipped s l n h = rw h
 
   pub select-append : (l m : List Step) → select p (l ++ m) ≡ select p l ++ select p m
-  unfolding select keepIf
+  unfolding select
   select-append [] m = refl
   select-append (s ∷ l) m = go (p s) (select-append l m)
     where
-      go : (b : Bool) → select p (l ++ m) ≡ select p l ++ select p m → keepIf b s (select p (l ++ m)) ≡ keepIf b s (select p l) ++ select p m
+      go : (b : Bool) → select p (l ++ m) ≡ select p l ++ select p m → cond b (s ∷ select p (l ++ m)) (select p (l ++ m)) ≡ cond b (s ∷ select p l) (select p l) ++ select p m
       go true e = ap (λ (x : List Step). s ∷ x) e
       go false e = e
 
   pub select-passes : (l : List Step) (n : ℕ) (d : Step) → n < length (select p l) → p (getD (select p l) n d) ≡ true
-  unfolding select keepIf
+  unfolding select
   select-passes [] n d h = absurd (let z : ⊥ = omega arith in z)
   select-passes (s ∷ l) n d h = go (p s) refl n h (λ n. select-passes l n d)
     where
-      go : (b : Bool) → p s ≡ b → (n : ℕ) → n < length (keepIf b s (select p l)) → ((n : ℕ) → n < length (select p l) → p (getD (select p l) n d) ≡ true) → p (getD (keepIf b s (select p l)) n d) ≡ true
+      go : (b : Bool) → p s ≡ b → (n : ℕ) → n < length (cond b (s ∷ select p l) (select p l)) → ((n : ℕ) → n < length (select p l) → p (getD (select p l) n d) ≡ true) → p (getD (cond b (s ∷ select p l) (select p l)) n d) ≡ true
       go true e zero h f = e
       go true e (suc n) h f = f n (omega arith)
       go false e n h f = f n h
 
   pub length-select : (l : List Step) → length (select p l) ≤ length l
-  unfolding select keepIf
+  unfolding select
   length-select [] = omega arith
   length-select (s ∷ l) = go (p s) (length-select l)
     where
-      go : (b : Bool) → length (select p l) ≤ length l → length (keepIf b s (select p l)) ≤ suc (length l)
+      go : (b : Bool) → length (select p l) ≤ length l → length (cond b (s ∷ select p l) (select p l)) ≤ suc (length l)
       go true e = omega arith
       go false e = omega arith
 
@@ -123,13 +124,13 @@ entry-beyond (t ∷ l) zero h = absurd (let z : ⊥ = omega arith in z)
 entry-beyond (t ∷ l) (suc n) h = entry-beyond l n (omega arith) ∙ ap Beyond (omega arith)
 
 -- how many steps there are before the test
-length-count : (a n : ℕ) → length (count a n) ≡ n
-unfolding count
+length-count : (a n : ℕ) → length (numbersFrom a n) ≡ n
+unfolding numbersFrom
 length-count a zero = refl
 length-count a (suc n) = ap suc (length-count (suc a) n)
 
-length-flat : (f : ℕ → List Step) (m : ℕ) → ((x : ℕ) → length (f x) ≡ m) → (a n : ℕ) → length (flatMap f (count a n)) ≡ n * m
-unfolding count flatMap
+length-flat : (f : ℕ → List Step) (m : ℕ) → ((x : ℕ) → length (f x) ≡ m) → (a n : ℕ) → length (flatMap f (numbersFrom a n)) ≡ n * m
+unfolding numbersFrom flatMap
 length-flat f m h a zero = sym (zero-mul m)
 length-flat f m h a (suc n) = length-append (f a) _ ∙ (let i = length-flat f m h (suc a) n in omega (arith, h a, suc-mul n m))
 

@@ -6,18 +6,20 @@ use Prim.Native.Nat.{ℕ, zero, suc, _+_, _-_, _*_, _%_, _^_, _≤_, _<_}
 use native.Mathlib.Nat.{mod-eq-of-lt}
 use native.Mathlib.Omega.{arith}
 use lib.ListN.{length}
-use Rattle.finite.specs.Sum.{addition, sumTo}
+use Rattle.finite.specs.Sum.{foldTo}
+use Rattle.finite.specs.internal.Monoid.{addition, sumTo}
 use Rattle.finite.proofs.Sums.{except, sum-ext, sum-extract, except-same, except-other}
 use Rattle.finite.proofs.Cases.{by-eq, by-sum}
 use Rattle.bitset.specs.Set.{size}
 use Rattle.bitset.proofs.Laws.{size-le}
 use Rattle.schedule.specs.declared.Step.{Step}
 use Rattle.schedule.specs.declared.rows.Sizes.{Sizes}
-use Rattle.schedule.specs.Rows.{rowAt, fourSet, sizeOf, sizesOf, added, removed, sizesWithout, others, HoldRows}
+use Rattle.schedule.specs.Rows.{rowAt, added, removed}
+use Rattle.schedule.specs.internal.Rows.{fourSet, sizeOf, sizesOf, sizesWithout, others, HoldRows}
 use Rattle.schedule.proofs.Counting.{four-length, four-own, four-other, rows-sum}
 
 sum-most : (n : ℕ) (f : ℕ → ℕ) → ((i : ℕ) → i < n → f i ≤ 64) → sumTo addition n f ≤ 64 * n
-unfolding sumTo
+unfolding foldTo
 sum-most zero f h = omega arith
 sum-most (suc n) f h = omega (arith, sum-most n f (λ i l. h i (omega arith)), h n (omega arith))
 

@@ -1,8 +1,8 @@
 -- Rows list the steps that a net allows: a row has as many steps as its set has members, and the rows of a net's allowed steps, row by row,
 -- are its list. The row of the reports is the same for every kind of net. Assumes nothing.
 use mathlib.Core.Path.{_≡_, refl, sym, _∙_, ap, ap₂}
-use mathlib.Core.Bool.{Bool, false, _&&_, and-true, and-false}
-use mathlib.Core.List.{List, [], _++_, map, flatMap}
+use mathlib.Core.Bool.{Bool, false, _&&_, and-true, and-false, cond}
+use mathlib.Core.List.{List, _∷_, [], _++_, map, flatMap}
 use Prim.Native.Nat.{ℕ, zero, suc, _+_, _-_, _*_, _^_, _≤_, _<_}
 use native.Mathlib.Nat.{add-zero, zero-add, le-trans, lt-of-lt-of-le, mul-le-mul-left, mul-le-mul-right}
 use native.Mathlib.Omega.{arith}
@@ -11,26 +11,29 @@ use lib.Dec.{eqb}
 use lib.Pow.{pow-mono}
 use borrow.Author.Tests.{eq-eqb, ne-eqb, le-leb, lt-leb, lt-ltb}
 use Rattle.finite.proofs.Cases.{by-bool, by-eq, eqb-self}
-use Rattle.finite.specs.Sum.{addition, sumTo, indicator}
+use Rattle.finite.specs.Sum.{foldTo, indicator}
+use Rattle.finite.specs.internal.Monoid.{addition, sumTo}
 use Rattle.finite.proofs.Sums.{sum-ext, sum-first}
-use Rattle.bitset.specs.Set.{member, size, bitIf, setOf}
+use Rattle.bitset.specs.Set.{member, size, bitIf}
+use Rattle.bitset.specs.internal.Selected.{setOf}
 use Rattle.bitset.proofs.Laws.{size-sum, no-member-from, same-members, member-empty}
 use Rattle.bitset.proofs.Selected.{set-lt, set-none, set-member, set-has, bit-has, bit-lt}
 use Rattle.schedule.specs.declared.Step.{Step}
 use Rattle.schedule.specs.Rules.{Rules, inRange, allowed}
-use Rattle.schedule.specs.Listing.{count, range, keepIf, select, step, listed}
-use Rattle.schedule.specs.Rows.{stepsFrom, stepsOfKind, stepsOf, rowAt, inRows, listedIn, AreRows}
+use Rattle.schedule.specs.Listing.{numbersFrom, range, select, step, listed}
+use Rattle.schedule.specs.Rows.{stepsFrom, stepsOfKind, rowAt, inRows}
+use Rattle.schedule.specs.internal.Rows.{stepsOf, listedIn, AreRows}
 use Rattle.schedule.proofs.Listing.{allowed-low}
 use Rattle.schedule.proofs.Parts.{select-append, candidates-are, length-select, length-stepsOf}
 
 -- how many of n steps pass a test
 length-passing : (p : Step → Bool) (f : ℕ → Step) (a n : ℕ)
-    → length (select p (map f (count a n))) ≡ sumTo addition n (λ i. indicator (p (f (a + i))))
-unfolding select keepIf count sumTo indicator
+    → length (select p (map f (numbersFrom a n))) ≡ sumTo addition n (λ i. indicator (p (f (a + i))))
+unfolding select numbersFrom foldTo indicator
 length-passing p f a zero = refl
 length-passing p f a (suc n) =
     let g : ℕ → ℕ = λ i. indicator (p (f (a + i))) in
-    let rest : length (select p (map f (count (suc a) n))) ≡ sumTo addition n (λ i. g (suc i)) =
+    let rest : length (select p (map f (numbersFrom (suc a) n))) ≡ sumTo addition n (λ i. g (suc i)) =
     length-passing p f (suc a) n ∙ sum-ext addition n _ _ (λ i l. ap (λ (m : ℕ). indicator (p (f m))) (omega arith)) in
     let first : indicator (p (f a)) ≡ g 0 = ap (λ (m : ℕ). indicator (p (f m))) (sym (add-zero a)) in
     by-bool (p (f a))
@@ -48,31 +51,31 @@ row-length rows kind s h =
 
 -- steps are listed alike where each part is, and the parts past n have none
 select-flat : (p q : Step → Bool) (f g : ℕ → List Step) (a n w : ℕ) → n ≤ w → ((x : ℕ) → a ≤ x → x < a + n → select p (f x) ≡ select q (g x))
-    → ((x : ℕ) → a + n ≤ x → x < a + w → select p (f x) ≡ []) → select p (flatMap f (count a w)) ≡ select q (flatMap g (count a n))
-unfolding flatMap count select
+    → ((x : ℕ) → a + n ≤ x → x < a + w → select p (f x) ≡ []) → select p (flatMap f (numbersFrom a w)) ≡ select q (flatMap g (numbersFrom a n))
+unfolding flatMap numbersFrom select
 select-flat p q f g a zero zero h same none = refl
 select-flat p q f g a zero (suc w) h same none =
-    select-append p (f a) (flatMap f (count (suc a) w))
+    select-append p (f a) (flatMap f (numbersFrom (suc a) w))
     ∙ ap₂ _++_ (none a (omega arith) (omega arith))
     (select-flat p q f g (suc a) zero w (omega arith) (λ x l m. absurd (let z : ⊥ = omega arith in z)) (λ x l m. none x (omega arith) (omega arith)))
 select-flat p q f g a (suc n) zero h same none = absurd (let z : ⊥ = omega arith in z)
 select-flat p q f g a (suc n) (suc w) h same none =
-    select-append p (f a) (flatMap f (count (suc a) w))
+    select-append p (f a) (flatMap f (numbersFrom (suc a) w))
     ∙ ap₂ _++_ (same a (omega arith) (omega arith))
     (select-flat p q f g (suc a) n w (omega arith) (λ x l m. same x (omega arith) (omega arith)) (λ x l m. none x (omega arith) (omega arith)))
-    ∙ sym (select-append q (g a) (flatMap g (count (suc a) n)))
+    ∙ sym (select-append q (g a) (flatMap g (numbersFrom (suc a) n)))
 
 -- a row tested by its set, over all 64 receivers, and by what the set was made of, over those below k
 select-row : (p q : Step → Bool) (f : ℕ → Step) (a k w : ℕ) → k ≤ w → ((i : ℕ) → a ≤ i → i < a + k → p (f i) ≡ q (f i))
-    → ((i : ℕ) → a + k ≤ i → p (f i) ≡ false) → select p (map f (count a w)) ≡ select q (map f (count a k))
-unfolding select keepIf count
+    → ((i : ℕ) → a + k ≤ i → p (f i) ≡ false) → select p (map f (numbersFrom a w)) ≡ select q (map f (numbersFrom a k))
+unfolding select numbersFrom
 select-row p q f a zero zero h same none = refl
 select-row p q f a zero (suc w) h same none =
     rw (none a (omega arith)) (select-row p q f (suc a) zero w (omega arith) (λ i g l. absurd (let z : ⊥ = omega arith in z)) (λ i g. none i (omega arith)))
 select-row p q f a (suc k) zero h same none = absurd (let z : ⊥ = omega arith in z)
 select-row p q f a (suc k) (suc w) h same none =
     rw (same a (omega arith) (omega arith))
-    (ap (keepIf (q (f a)) (f a)) (select-row p q f (suc a) k w (omega arith) (λ i g l. same i (omega arith) (omega arith)) (λ i g. none i (omega arith))))
+    (ap (λ (l : List Step). cond (q (f a)) (f a ∷ l) l) (select-row p q f (suc a) k w (omega arith) (λ i g l. same i (omega arith) (omega arith)) (λ i g. none i (omega arith))))
 
 -- the row of a kind that a net does not have
 pub no-row : {Net : Type 0} (R : Rules Net) (net : Net) (kind s : ℕ) → R .kinds < kind
@@ -98,7 +101,7 @@ module _ {Net : Type 0} (R : Rules Net) (net : Net) (rows : List ℕ) (are : Are
       (λ i a. ap (member i) row ∙ no-member-from k i (setOf k test) (set-lt k test) (omega arith)))
 
   row-empty : (kind s : ℕ) → R .kinds < kind → kind ≤ 4 → s < k → select (inRows rows) (stepsFrom 64 kind s 0) ≡ []
-  unfolding stepsFrom range inRows count select
+  unfolding stepsFrom range inRows numbersFrom select
   row-empty kind s h l m =
       let row = are .row kind s (omega arith) l m ∙ sym (no-row R net kind s h) in
       select-row (inRows rows) (allowed R net) (step kind s) 0 0 64 (omega arith)
@@ -113,7 +116,7 @@ module _ {Net : Type 0} (R : Rules Net) (net : Net) (rows : List ℕ) (are : Are
       (λ s a b. absurd (let z : ⊥ = omega arith in z))
 
   kind-empty : (kind : ℕ) → R .kinds < kind → kind ≤ 4 → select (inRows rows) (stepsOfKind 64 k kind 0) ≡ []
-  unfolding stepsOfKind range flatMap count select
+  unfolding stepsOfKind range flatMap numbersFrom select
   kind-empty kind h l =
       select-flat (inRows rows) (allowed R net) _ (λ s. []) 0 0 (k - 0) (omega arith)
       (λ s a b. absurd (let z : ⊥ = omega arith in z))

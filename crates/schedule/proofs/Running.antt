@@ -16,9 +16,10 @@ use Rattle.schedule.specs.declared.rows.Drawn.the-variants as drawn
 use Rattle.schedule.specs.declared.rows.Sizes.{Sizes}
 use Rattle.schedule.specs.Rules.{Rules}
 use Rattle.schedule.specs.Listing.{listed}
-use Rattle.schedule.specs.Outcome.{Outcome, accepted, refused}
+use Rattle.schedule.specs.Outcome.{StepOutcome, stepMade, stepRefused}
 use Rattle.schedule.specs.Draws.{drawOn, stopped, runOn}
-use Rattle.schedule.specs.Rows.{totalOf, pickedBySize, Filled}
+use Rattle.schedule.specs.Rows.{totalOf, pickedBySize}
+use Rattle.schedule.specs.internal.Rows.{Filled}
 use Rattle.schedule.proofs.Picks.{none-picked}
 use Rattle.schedule.proofs.Outcomes.{runFrom, run-from-start, run-used-up, run-refused, run-on, run-unformed, stopped-formed, stopped-unformed}
 use Rattle.schedule.proofs.Drawing.{total-is, of-list, drawn-nothing, drawn-accepted}
@@ -39,15 +40,15 @@ module _ {Net : Type 0} (R : Rules Net) where
     ends-used-up h = r .left ∙ run-used-up R here made made draws h
 
     module _ (h : made < length draws) where
-      ends-refused : (why : Refusal) → drawOn R here (getD draws made 0) ≡ refused why here → runOn R first draws ≡ stopped R here made
-      ends-refused why z = r .left ∙ run-refused R here made made draws h (ap (λ (o : Outcome Net). o .made) z)
+      ends-refused : (why : Refusal) → drawOn R here (getD draws made 0) ≡ stepRefused why here → runOn R first draws ≡ stopped R here made
+      ends-refused why z = r .left ∙ run-refused R here made made draws h (ap (λ (o : StepOutcome Net). o .made) z)
 
-      module _ {s : Step} {next : Net} (a : drawOn R here (getD draws made 0) ≡ accepted s next) where
+      module _ {s : Step} {next : Net} (a : drawOn R here (getD draws made 0) ≡ stepMade s next) where
         further : runOn R first draws ≡ runFrom R next (made + 1) (drop (made + 1) draws)
         further =
             r .left
-            ∙ run-on R here made made draws s h (ap (λ (o : Outcome Net). o .made) a)
-            ∙ ap (λ (o : Outcome Net). runFrom R (o .net) (made + 1) (drop (made + 1) draws)) a
+            ∙ run-on R here made made draws s h (ap (λ (o : StepOutcome Net). o .made) a)
+            ∙ ap (λ (o : StepOutcome Net). runFrom R (o .net) (made + 1) (drop (made + 1) draws)) a
 
         goes-on : R .wellFormed next ≡ true → Running first draws next (made + 1)
         goes-on f = record { formed = f; left = further }
@@ -77,8 +78,8 @@ module _ {Net : Type 0} (R : Rules Net) where
 
       -- the step drawn, and the net after it
       module _ {s : Step} (q : p ≡ drawn.Step s) {next : Net} (u : next ≡ R .apply here s) where
-        accepts : drawOn R here (getD draws made 0) ≡ accepted s next
-        accepts = drawn-accepted R here F _ e (r .formed) q ∙ ap (accepted s) (sym u)
+        accepts : drawOn R here (getD draws made 0) ≡ stepMade s next
+        accepts = drawn-accepted R here F _ e (r .formed) q ∙ ap (stepMade s) (sym u)
 
         pub goes-on-with : R .wellFormed next ≡ true → Running first draws next (made + 1)
         goes-on-with f = goes-on r h accepts f

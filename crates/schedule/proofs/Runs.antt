@@ -7,14 +7,17 @@ use mathlib.Core.List.{List, [], _∷_, _++_, map}
 use Prim.Native.Nat.{ℕ, suc, _<_}
 use native.Mathlib.Omega.{arith}
 use lib.ListN.{length}
-use Rattle.finite.proofs.Cases.{clash, by-bool, by-sum}
+use Rattle.finite.proofs.Cases.{by-bool, by-sum}
 use Rattle.schedule.specs.declared.Step.{Step}
 use Rattle.schedule.specs.Rules.{Rules}
-use Rattle.schedule.specs.Listing.{listed, isEmpty, quiescent}
-use Rattle.schedule.specs.Outcome.{Outcome}
-use Rattle.schedule.specs.Draws.{onward, picked, drawFrom, drawOn, runMade, runNet, stopped, runOn}
+use Rattle.schedule.specs.Listing.{quiescent}
+use Rattle.schedule.specs.Outcome.{StepOutcome}
+use Rattle.schedule.specs.Draws.{onward, drawOn, runMade, runNet, stopped, runOn}
 use Rattle.schedule.specs.Calls.{draw, callMade, callNet, callsMade, callsNet}
+use Rattle.schedule.proofs.Listing.{quiescent-at-rest}
 use Rattle.schedule.proofs.Made.{DrawComes, draw-cases}
+use Rattle.schedule.proofs.Outcomes.{draw-unformed}
+use Rattle.schedule.proofs.Resting.{rest-draw}
 
 module _ {Net : Type 0} (R : Rules Net) where
   -- where a run stops short
@@ -23,13 +26,11 @@ module _ {Net : Type 0} (R : Rules Net) where
 
   -- there every draw is refused
   stuck-refuses : (net : Net) (d : ℕ) → Stuck net → (drawOn R net d .made ≡ []) × (drawOn R net d .net ≡ net)
-  unfolding drawOn picked quiescent isEmpty
-  stuck-refuses net d (inl f) = rw f (refl, refl)
-  stuck-refuses net d (inr q) = by-bool (R .wellFormed net) (λ f. rw f (empty (listed R net) q)) (λ f. rw f (refl, refl))
-    where
-      empty : (l : List Step) → isEmpty l ≡ true → (drawFrom R net (picked l d) .made ≡ []) × (drawFrom R net (picked l d) .net ≡ net)
-      empty [] e = (refl, refl)
-      empty (s ∷ l) e = clash e refl
+  stuck-refuses net d (inl f) = rw (draw-unformed R net d f) (refl, refl)
+  stuck-refuses net d (inr q) =
+      by-bool (R .wellFormed net)
+      (λ f. rw (rest-draw R net f (quiescent-at-rest R net .0 q) d) (refl, refl))
+      (λ f. rw (draw-unformed R net d f) (refl, refl))
 
   stuck-draws : (net : Net) (ds : List ℕ) → Stuck net → (callsMade R net (map draw ds) ≡ []) × (callsNet R net (map draw ds) ≡ net)
   unfolding callsMade callsNet callMade callNet
@@ -40,7 +41,7 @@ module _ {Net : Type 0} (R : Rules Net) where
       (rw (r .0, r .1) (further .0), ap (λ (n : Net). callsNet R n (map draw ds)) (r .1) ∙ further .1)
 
   -- after a draw that came to o, the run and the draws go on alike
-  abbrev Alike : Net → List ℕ → Outcome Net → Type 0
+  abbrev Alike : Net → List ℕ → StepOutcome Net → Type 0
   Alike net ds o =
       (onward (o .made) [] (λ s. s ∷ runMade R (o .net) ds) ≡ o .made ++ callsMade R (o .net) (map draw ds))
       × (onward (o .made) net (λ s. runNet R (o .net) ds) ≡ callsNet R (o .net) (map draw ds))
@@ -56,7 +57,7 @@ module _ {Net : Type 0} (R : Rules Net) where
       let none = stuck-draws net ds (w .2) in
       subst (Alike net ds) (sym (w .1)) (sym (none .0), sym (none .1)))
       (λ w.
-      let same = ap (λ (o : Outcome Net). o .net) (w .1) in
+      let same = ap (λ (o : StepOutcome Net). o .net) (w .1) in
       subst (Alike net ds) (sym (w .1)) (
         ap (λ (l : List Step). w .0 ∷ l) (subst (λ (n : Net). runMade R n ds ≡ callsMade R n (map draw ds)) same (further .0)),
         subst (λ (n : Net). runNet R n ds ≡ callsNet R n (map draw ds)) same (further .1),

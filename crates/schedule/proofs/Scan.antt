@@ -13,7 +13,8 @@ use Rattle.schedule.specs.declared.Step.{Step}
 use Rattle.schedule.specs.declared.rows.Entry.{Entry}
 use Rattle.schedule.specs.declared.rows.Entry.the-variants.{At, Beyond}
 use Rattle.schedule.specs.Listing.{select, step}
-use Rattle.schedule.specs.Rows.{stepsFrom, stepsOfKind, stepsOf, entry}
+use Rattle.schedule.specs.Rows.{stepsFrom, stepsOfKind, entry}
+use Rattle.schedule.specs.internal.Rows.{stepsOf}
 use Rattle.schedule.proofs.Parts.{stepsFrom-none, stepsFrom-more, stepsOfKind-none, stepsOfKind-more, stepsOf-none, stepsOf-more, select-append, entry-met, entry-passed, entry-skipped, entry-first, entry-second, entry-at, entry-beyond}
 
 -- before sender s

@@ -14,7 +14,8 @@ use Rattle.schedule.specs.declared.Step.{Step}
 use Rattle.schedule.specs.declared.rows.Sizes.{Sizes}
 use Rattle.schedule.specs.Listing.{select}
 use Rattle.schedule.specs.Draws.{picked}
-use Rattle.schedule.specs.Rows.{stepsOfKind, stepsOf, entry, inRows, listedIn, entryOfKind, sizeOf, sizesOf, totalOf, entryBySize, pickedBySize}
+use Rattle.schedule.specs.Rows.{stepsOfKind, entry, inRows, entryOfKind, totalOf, entryBySize, pickedBySize}
+use Rattle.schedule.specs.internal.Rows.{stepsOf, listedIn, sizeOf, sizesOf}
 use Rattle.schedule.proofs.Parts.{stepsOf-none, stepsOf-more, select-append}
 use Rattle.schedule.proofs.Scan.{AtKind, kind-found, kind-past, kind-last}
 use Rattle.schedule.proofs.RowLists.{listed-few}

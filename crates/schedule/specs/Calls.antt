@@ -1,9 +1,6 @@
 -- Lists of calls on one net (document 01, "Lists of calls"): "steps, draws and runs on one net, mixed, with any arguments, accepted or refused".
-use mathlib.Core.Bool.{cond}
 use mathlib.Core.List.{List, [], _∷_, _++_}
 use Prim.Native.Nat.{ℕ}
-use lib.Dec.{eqb}
-use Rattle.wave.specs.Wave as wave
 use Rattle.schedule.specs.declared.Step.{Step}
 use Rattle.schedule.specs.Rules.{Rules}
 use Rattle.schedule.specs.Draws.{stepOn, drawOn, runMade, runOn}
@@ -37,7 +34,3 @@ module _ {Net : Type 0} (R : Rules Net) where
   unfoldable pub callsNet : Net → List Call → Net
   callsNet net [] = net
   callsNet net (c ∷ cs) = callsNet (callNet net c) cs
-
-  -- "Every step made but a report is one message, carried by the link of its two stations from sender to receiver"
-  abbrev pub labelOf : Step → wave.Step
-  labelOf s = cond (eqb (s .kind) (R .reports)) wave.report (wave.message (s .sender) (s .receiver))

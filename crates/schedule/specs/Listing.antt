@@ -1,28 +1,23 @@
 -- The list of allowed steps (document 01, "Stations that meet"): "Steps are listed by kind, then sender, then receiver, rising."
-use mathlib.Core.Bool.{Bool, true, false}
+use mathlib.Core.Bool.{Bool, true, false, cond}
 use mathlib.Core.List.{List, [], _∷_, map, flatMap}
 use Prim.Native.Nat.{ℕ, zero, suc, _-_}
 use Rattle.schedule.specs.declared.Step.{Step}
 use Rattle.schedule.specs.Rules.{Rules, allowed}
 
 -- a, a + 1, .., n numbers
-unfoldable pub count : ℕ → ℕ → List ℕ
-count a zero = []
-count a (suc n) = a ∷ count (suc a) n
+unfoldable pub numbersFrom : ℕ → ℕ → List ℕ
+numbersFrom a zero = []
+numbersFrom a (suc n) = a ∷ numbersFrom (suc a) n
 
 -- the numbers from a up to b, b left out
 unfoldable pub range : ℕ → ℕ → List ℕ
-range a b = count a (b - a)
-
--- an entry, if it passes, before the others
-unfoldable pub keepIf : {A : Type 0} → Bool → A → List A → List A
-keepIf true a l = a ∷ l
-keepIf false a l = l
+range a b = numbersFrom a (b - a)
 
 -- the entries that pass the test, in their order
 unfoldable pub select : {A : Type 0} → (A → Bool) → List A → List A
 select p [] = []
-select p (a ∷ l) = keepIf (p a) a (select p l)
+select p (a ∷ l) = cond (p a) (a ∷ select p l) (select p l)
 
 -- "A step has a kind, a sender and a receiver" (Stations that meet)
 abbrev pub step : ℕ → ℕ → ℕ → Step

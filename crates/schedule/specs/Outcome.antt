@@ -11,23 +11,23 @@ use Rattle.schedule.specs.declared.RunAnswer.{RunAnswer}
 use Rattle.schedule.specs.declared.RunAnswer.the-variants as run
 
 -- a single step or a draw: the step made stands in `made`, and nothing where it is refused
-pub record Outcome (Net : Type 0) : Type 0 where
+pub record StepOutcome (Net : Type 0) : Type 0 where
   pub number : ℕ
   pub made : List Step
   pub net : Net
 
 -- a step that was made; 0 is no number of document 01's
-abbrev pub accepted : {Net : Type 0} → Step → Net → Outcome Net
-accepted s net = record { number = 0; made = s ∷ []; net = net }
+abbrev pub stepMade : {Net : Type 0} → Step → Net → StepOutcome Net
+stepMade s net = record { number = 0; made = s ∷ []; net = net }
 
 -- a refusal leaves the net as it was (Causes and numbers)
-abbrev pub refused : {Net : Type 0} → Refusal → Net → Outcome Net
-refused r net = record { number = numberOf r; made = []; net = net }
+abbrev pub stepRefused : {Net : Type 0} → Refusal → Net → StepOutcome Net
+stepRefused r net = record { number = numberOf r; made = []; net = net }
 
 -- the number and the values of each answer, with the net beside it
-abbrev pub outcomeOf : {Net : Type 0} → Answer → Net → Outcome Net
-outcomeOf (Made s) net = accepted s net
-outcomeOf (Refused r) net = refused r net
+abbrev pub stepOutcomeOf : {Net : Type 0} → Answer → Net → StepOutcome Net
+stepOutcomeOf (Made s) net = stepMade s net
+stepOutcomeOf (Refused r) net = stepRefused r net
 
 -- a run: "it gives the net, the number of steps made and whether it is at rest" (Stations that meet), or number 11 with net and steps
 pub record RunOutcome (Net : Type 0) : Type 0 where

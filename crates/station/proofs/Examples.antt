@@ -5,11 +5,11 @@ use Prim.Native.Nat.{_-_, _^_}
 use Rattle.aggregate.specs.declared.Aggregate.{Aggregate}
 use Rattle.aggregate.specs.Aggregate.{rootOf, bounded, joined}
 use Rattle.refusal.specs.declared.Refusal.the-variants.{NotAllowed}
-use Rattle.bitset.specs.Set.{member, count, size, without, within}
+use Rattle.bitset.specs.Set.{member, membersBelow, size, without, within}
 use Rattle.station.specs.declared.Process.{Process}
 use Rattle.station.specs.Events.{startedBy, ready, mayAnswer}
 use Rattle.station.specs.Form.{wellFormed, wellFormedProcess}
-use Rattle.station.specs.Process.{done, refused, decide, takeStart, takeAnswer, sendAnswer}
+use Rattle.station.specs.Process.{done, eventRefused, decide, takeStart, takeAnswer, sendAnswer}
 
 -- asleep, as the fresh net has it
 abbrev sleeping : Process
@@ -20,17 +20,17 @@ abbrev waiting : Process
 waiting = record { own = 1; station = record { held = record { sum = 7 }; unstarted = 4; parent = 0; waits = 1; state = 1 } }
 
 wakes : takeStart 0 sleeping ≡ done waiting
-unfolding takeStart decide wellFormedProcess wellFormed startedBy member count size without within bounded rootOf
+unfolding takeStart decide wellFormedProcess wellFormed startedBy member membersBelow size without within bounded rootOf
 wakes = refl
 
 -- no answer while a start is unsent
-not-yet : sendAnswer waiting ≡ refused NotAllowed waiting
+not-yet : sendAnswer waiting ≡ eventRefused NotAllowed waiting
 unfolding sendAnswer decide wellFormedProcess wellFormed mayAnswer ready member within bounded rootOf
 not-yet = refl
 
 -- a start from itself is accepted, and leaves the form
 own-start : (takeStart 1 sleeping .number ≡ 0) × (wellFormedProcess (takeStart 1 sleeping .process) ≡ false)
-unfolding takeStart decide wellFormedProcess wellFormed startedBy member count size without within bounded rootOf
+unfolding takeStart decide wellFormedProcess wellFormed startedBy member membersBelow size without within bounded rootOf
 own-start = (refl, refl)
 
 -- so is an answer that makes the sum 2^62

@@ -12,7 +12,7 @@ use Rattle.aggregate.specs.Aggregate.{rootOf, bounded, joined}
 use Rattle.station.specs.declared.Station.{Station}
 use Rattle.station.specs.declared.Process.{Process}
 use Rattle.station.specs.Events.{asleep, active, woken, startedBy}
-use Rattle.station.specs.Form.{wellFormed, configOf, wellFormedProcess}
+use Rattle.station.specs.Form.{wellFormed, processConfig, wellFormedProcess}
 use Rattle.station.specs.Process.{gives, after, decide, takeStart, sendStart, takeAnswer, sendAnswer, report}
 use Rattle.station.proofs.Formed.{woken-formed, answer-taken-formed, start-sent-formed, started-formed, ended-formed}
 use Rattle.station.proofs.Outcomes.{decide-holds, decide-leaves}
@@ -21,60 +21,60 @@ module _ (p : Process) where
   -- the two parts of the form
   pub own-below : wellFormedProcess p ≡ true → p .own < 64
   unfolding wellFormedProcess
-  own-below h = ltb-true (p .own) 64 (and-both (ltb (p .own) 64) (wellFormed (configOf p) (p .own) (p .station)) h .0)
+  own-below h = ltb-true (p .own) 64 (and-both (ltb (p .own) 64) (wellFormed (processConfig p) (p .own) (p .station)) h .0)
 
-  pub station-formed : wellFormedProcess p ≡ true → wellFormed (configOf p) (p .own) (p .station) ≡ true
+  pub station-formed : wellFormedProcess p ≡ true → wellFormed (processConfig p) (p .own) (p .station) ≡ true
   unfolding wellFormedProcess
-  station-formed h = and-both (ltb (p .own) 64) (wellFormed (configOf p) (p .own) (p .station)) h .1
+  station-formed h = and-both (ltb (p .own) 64) (wellFormed (processConfig p) (p .own) (p .station)) h .1
 
   -- the process after an event is in form just where its station is
-  after-formed : (s : Station) → wellFormedProcess p ≡ true → wellFormedProcess (after p s) ≡ wellFormed (configOf p) (p .own) s
+  after-formed : (s : Station) → wellFormedProcess p ≡ true → wellFormedProcess (after p s) ≡ wellFormed (processConfig p) (p .own) s
   unfolding wellFormedProcess
   after-formed s h = rw (lt-ltb (p .own) 64 (own-below h))
 
   -- Form. Each event keeps it, but two that leave it: a start that a sleeping station takes from itself, unless it is the root, and
   -- an answer that makes the sum too large.
-  pub take-start-formed : (j : ℕ) → wellFormedProcess p ≡ true → (j ≡ p .own → p .own ≡ rootOf (configOf p))
+  pub take-start-formed : (j : ℕ) → wellFormedProcess p ≡ true → (j ≡ p .own → p .own ≡ rootOf (processConfig p))
       → wellFormedProcess (takeStart j p .process) ≡ true
   unfolding takeStart
   take-start-formed j h other =
       decide-holds (λ q. wellFormedProcess q ≡ true) _ _ _ p _ h
       (λ f r a. after-formed (startedBy j (p .station)) h
-      ∙ started-formed (configOf p) (p .own) (p .station) (station-formed h) j (omega arith) (ltb-true j 64 r) other)
+      ∙ started-formed (processConfig p) (p .own) (p .station) (station-formed h) j (omega arith) (ltb-true j 64 r) other)
 
-  pub start-from-itself : wellFormedProcess p ≡ true → p .station .state ≡ asleep → (p .own ≡ rootOf (configOf p) → ⊥)
+  pub start-from-itself : wellFormedProcess p ≡ true → p .station .state ≡ asleep → (p .own ≡ rootOf (processConfig p) → ⊥)
       → wellFormedProcess (takeStart (p .own) p .process) ≡ false
   unfolding takeStart decide startedBy
   start-from-itself h e n =
       let low = own-below h in
       rw (h, lt-ltb (p .own) 64 low, eq-eqb (p .station .state) asleep e)
       (after-formed (woken (p .own) (p .station)) h
-      ∙ woken-formed (configOf p) (p .own) (p .station) (station-formed h) (p .own) (omega arith) low
-      ∙ rw (ne-eqb (p .own) (rootOf (configOf p)) n, eqb-self (p .own)))
+      ∙ woken-formed (processConfig p) (p .own) (p .station) (station-formed h) (p .own) (omega arith) low
+      ∙ rw (ne-eqb (p .own) (rootOf (processConfig p)) n, eqb-self (p .own)))
 
   pub take-answer-formed : (v : Aggregate) → wellFormedProcess p ≡ true
-      → bounded (configOf p) (joined (configOf p) (p .station .held) v) ≡ true
+      → bounded (processConfig p) (joined (processConfig p) (p .station .held) v) ≡ true
       → wellFormedProcess (takeAnswer v p .process) ≡ true
   unfolding takeAnswer
   take-answer-formed v h low =
       decide-holds (λ q. wellFormedProcess q ≡ true) _ _ _ p _ h
-      (λ f r a. after-formed _ h ∙ answer-taken-formed (configOf p) (p .own) (p .station) (station-formed h) v ∙ low)
+      (λ f r a. after-formed _ h ∙ answer-taken-formed (processConfig p) (p .own) (p .station) (station-formed h) v ∙ low)
 
-  pub answer-too-large : (v : Aggregate) → wellFormedProcess p ≡ true → p .station .state ≡ active → bounded (configOf p) v ≡ true
-      → bounded (configOf p) (joined (configOf p) (p .station .held) v) ≡ false → wellFormedProcess (takeAnswer v p .process) ≡ false
+  pub answer-too-large : (v : Aggregate) → wellFormedProcess p ≡ true → p .station .state ≡ active → bounded (processConfig p) v ≡ true
+      → bounded (processConfig p) (joined (processConfig p) (p .station .held) v) ≡ false → wellFormedProcess (takeAnswer v p .process) ≡ false
   unfolding takeAnswer decide
   answer-too-large v h e r high =
       rw (h, r, eq-eqb (p .station .state) active e)
-      (after-formed _ h ∙ answer-taken-formed (configOf p) (p .own) (p .station) (station-formed h) v ∙ high)
+      (after-formed _ h ∙ answer-taken-formed (processConfig p) (p .own) (p .station) (station-formed h) v ∙ high)
 
   pub send-start-formed : (j : ℕ) → wellFormedProcess p ≡ true → wellFormedProcess (sendStart j p .process) ≡ true
   unfolding sendStart
   send-start-formed j h =
       decide-holds (λ q. wellFormedProcess q ≡ true) _ _ _ p _ h
-      (λ f r a. after-formed _ h ∙ start-sent-formed (configOf p) (p .own) (p .station) (station-formed h) j)
+      (λ f r a. after-formed _ h ∙ start-sent-formed (processConfig p) (p .own) (p .station) (station-formed h) j)
 
   gives-formed : wellFormedProcess p ≡ true → wellFormedProcess (gives p .process) ≡ true
-  gives-formed h = after-formed _ h ∙ ended-formed (configOf p) (p .own) (p .station) (station-formed h)
+  gives-formed h = after-formed _ h ∙ ended-formed (processConfig p) (p .own) (p .station) (station-formed h)
 
   pub send-answer-formed : wellFormedProcess p ≡ true → wellFormedProcess (sendAnswer p .process) ≡ true
   unfolding sendAnswer

@@ -13,7 +13,7 @@ use Rattle.lent.proofs.Law.{Lending}
 use Rattle.aggregate.proofs.Aggregate as Sum
 use Rattle.aggregate.proofs.Aggregate.Laws as Sum′
 use Rattle.station.specs.declared.Process.{Process}
-use Rattle.station.specs.Process.{Outcome, outcomeOf}
+use Rattle.station.specs.Process.{EventOutcome, eventOutcomeOf}
 use Rattle.station.proofs.Process as P
 use Rattle.station.proofs.Process.Laws as P′
 use Rattle.station.proofs.Reply as R
@@ -24,7 +24,7 @@ use Rattle.station.proofs.Event.Laws as E′
 abbrev pub process : Record
 process = record { type = P.the-type; laws = P′.the-laws; plain = P′.the-plain }
 
-abbrev reply : Answer
+abbrev pub reply : Answer
 reply = struct-answer (record { type = R.the-type; laws = R′.the-laws; plain = R′.the-plain })
 
 abbrev event : Event process reply
@@ -44,12 +44,12 @@ abbrev pub aggregate : Argument 0
 aggregate = struct (record { type = Sum.the-type; laws = Sum′.the-laws; plain = Sum′.the-plain })
 
 -- an event with these arguments, by its rule
-abbrev pub lending : (Ns : List (Argument 0)) → ((κs : Lfts 0) → Denots (typesAt (values Ns) κs) → Process → Outcome) → Lending 0
+abbrev pub lending : (Ns : List (Argument 0)) → ((κs : Lfts 0) → Denots (typesAt (values Ns) κs) → Process → EventOutcome) → Lending 0
 lending Ns rule = record {
   lent = process;
   answer = reply;
   event = event;
   memory = alone;
   arguments = Ns;
-  promise = λ κs a e p r q. outcomeOf r q ≡ rule κs a p;
+  promise = λ κs a e p r q. eventOutcomeOf r q ≡ rule κs a p;
 }

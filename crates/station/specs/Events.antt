@@ -24,14 +24,7 @@ finished = 2
 -- line 1, s = 0, a start from j: "the parent becomes j, waits become the size of the set before j is removed, less one; j leaves
 -- the set; active"
 abbrev pub woken : ℕ → Station → Station
-woken j s =
-    record {
-      held = s .held;
-      unstarted = without j (s .unstarted);
-      parent = j;
-      waits = size (s .unstarted) - 1;
-      state = active;
-    }
+woken j s = record { held = s .held; unstarted = without j (s .unstarted); parent = j; waits = size (s .unstarted) - 1; state = active }
 
 -- line 2, a start to j: "active, j in the set"
 unfoldable pub maySendStart : ℕ → Station → Bool
@@ -39,36 +32,15 @@ maySendStart j s = eqb (s .state) active && member j (s .unstarted)
 
 -- line 2: "j leaves it"
 abbrev pub startSent : ℕ → Station → Station
-startSent j s =
-    record {
-      held = s .held;
-      unstarted = without j (s .unstarted);
-      parent = s .parent;
-      waits = s .waits;
-      state = s .state;
-    }
+startSent j s = record { held = s .held; unstarted = without j (s .unstarted); parent = s .parent; waits = s .waits; state = s .state }
 
 -- line 3, s = 1, an answer v: "v is added, waits less one"
 abbrev pub answerTaken : Config → Aggregate → Station → Station
-answerTaken t v s =
-    record {
-      held = joined t (s .held) v;
-      unstarted = s .unstarted;
-      parent = s .parent;
-      waits = s .waits - 1;
-      state = s .state;
-    }
+answerTaken t v s = record { held = joined t (s .held) v; unstarted = s .unstarted; parent = s .parent; waits = s .waits - 1; state = s .state }
 
 -- line 4, s = 1, a start: "waits less one"
 abbrev pub startTaken : Station → Station
-startTaken s =
-    record {
-      held = s .held;
-      unstarted = s .unstarted;
-      parent = s .parent;
-      waits = s .waits - 1;
-      state = s .state;
-    }
+startTaken s = record { held = s .held; unstarted = s .unstarted; parent = s .parent; waits = s .waits - 1; state = s .state }
 
 -- lines 1 and 4: a start from j wakes a sleeping station and leaves an active one a wait less
 unfoldable pub startedBy : ℕ → Station → Station
@@ -88,11 +60,4 @@ mayAnswer t i s = not (eqb i (rootOf t)) && ready s
 
 -- lines 5 and 6: "becomes finished"
 abbrev pub ended : Station → Station
-ended s =
-    record {
-      held = s .held;
-      unstarted = s .unstarted;
-      parent = s .parent;
-      waits = s .waits;
-      state = finished;
-    }
+ended s = record { held = s .held; unstarted = s .unstarted; parent = s .parent; waits = s .waits; state = finished }

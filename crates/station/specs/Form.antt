@@ -13,18 +13,13 @@ use Rattle.station.specs.Events.{finished}
 -- own set, none but station 0 its own parent"
 unfoldable pub wellFormed : Config → ℕ → Station → Bool
 wellFormed t i s =
-    leb (s .state) finished
-    && ltb (s .parent) (t .k)
-    && within (t .k) (s .unstarted)
-    && leb (s .waits) 64
-    && bounded t (s .held)
-    && not (member i (s .unstarted))
-    && (eqb i (rootOf t) || not (eqb (s .parent) i))
+    leb (s .state) finished && ltb (s .parent) (t .k) && within (t .k) (s .unstarted) && leb (s .waits) 64 && bounded t (s .held)
+    && not (member i (s .unstarted)) && (eqb i (rootOf t) || not (eqb (s .parent) i))
 
 -- "For one station 64 stands for k"
-abbrev pub configOf : Process → Config
-configOf p = record { k = 64 }
+abbrev pub processConfig : Process → Config
+processConfig p = record { k = 64 }
 
 -- "and its own number is below 64"
 unfoldable pub wellFormedProcess : Process → Bool
-wellFormedProcess p = ltb (p .own) (configOf p .k) && wellFormed (configOf p) (p .own) (p .station)
+wellFormedProcess p = ltb (p .own) (processConfig p .k) && wellFormed (processConfig p) (p .own) (p .station)

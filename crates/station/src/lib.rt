@@ -7,7 +7,7 @@ ghost use mathlib.Core.Bool.{cond};
 ghost use Prim.Native.Nat.{_-_};
 ghost use Rattle.aggregate.specs.Aggregate.{joinable};
 ghost use Rattle.station.specs.Events;
-ghost use Rattle.station.specs.Form.{wellFormed, configOf, wellFormedProcess};
+ghost use Rattle.station.specs.Form.{wellFormed, processConfig, wellFormedProcess};
 ghost use Rattle.station.specs.Process as Rules;
 
 // The states.
@@ -182,7 +182,7 @@ impl Station {
 impl Process {
     // What it is tested and joined by.
     fn config(self) -> Config
-        ensures { λ r. ⌜ r ≡ configOf self ⌝ }
+        ensures { λ r. ⌜ r ≡ processConfig self ⌝ }
     {
         Config { k: 64 }
     }
@@ -198,7 +198,7 @@ impl Process {
 
     // The process at another station, and nothing given.
     fn done(self, station: Station) -> Event
-        ensures { λ r. ⌜ Rules.outcomeOf (r .reply) (r .process) ≡ Rules.done (Rules.after self station) ⌝ }
+        ensures { λ r. ⌜ Rules.eventOutcomeOf (r .reply) (r .process) ≡ Rules.done (Rules.after self station) ⌝ }
     {
         Event {
             reply: Reply {
@@ -214,7 +214,7 @@ impl Process {
 
     // The end of its part: parent and sum are given.
     fn gives(self) -> Event
-        ensures { λ r. ⌜ Rules.outcomeOf (r .reply) (r .process) ≡ Rules.gives self ⌝ }
+        ensures { λ r. ⌜ Rules.eventOutcomeOf (r .reply) (r .process) ≡ Rules.gives self ⌝ }
     {
         let s = self.station;
         let held = s.held;
@@ -231,7 +231,7 @@ impl Process {
     }
 
     fn refused(self, r: Refusal) -> Event
-        ensures { λ e. ⌜ Rules.outcomeOf (e .reply) (e .process) ≡ Rules.refused r self ⌝ }
+        ensures { λ e. ⌜ Rules.eventOutcomeOf (e .reply) (e .process) ≡ Rules.eventRefused r self ⌝ }
     {
         Event {
             reply: Reply {
@@ -244,7 +244,7 @@ impl Process {
 
     // The refusals in their order, else the event.
     fn decide(self, form: bool, range: bool, allowed: bool, event: Event) -> Event
-        ensures { λ r. ⌜ Rules.outcomeOf (r .reply) (r .process) ≡ Rules.decide form range allowed self (Rules.outcomeOf (event .reply) (event .process)) ⌝ }
+        ensures { λ r. ⌜ Rules.eventOutcomeOf (r .reply) (r .process) ≡ Rules.decide form range allowed self (Rules.eventOutcomeOf (event .reply) (event .process)) ⌝ }
     {
         if !form {
             return self.refused(Refusal::OutOfForm);
@@ -260,7 +260,7 @@ impl Process {
 
     // Take a start from a neighbour: it wakes a sleeping station and leaves an active one a wait less.
     pub fn take_start(self, from: u8) -> Event
-        ensures { λ r. ⌜ Rules.outcomeOf (r .reply) (r .process) ≡ Rules.takeStart from self ⌝ }
+        ensures { λ r. ⌜ Rules.eventOutcomeOf (r .reply) (r .process) ≡ Rules.takeStart from self ⌝ }
     {
         let t = self.config();
         let s = self.station;
@@ -271,7 +271,7 @@ impl Process {
 
     // Send a start to a neighbour, which leaves the set.
     pub fn send_start(self, to: u8) -> Event
-        ensures { λ r. ⌜ Rules.outcomeOf (r .reply) (r .process) ≡ Rules.sendStart to self ⌝ }
+        ensures { λ r. ⌜ Rules.eventOutcomeOf (r .reply) (r .process) ≡ Rules.sendStart to self ⌝ }
     {
         let t = self.config();
         let s = self.station;
@@ -282,7 +282,7 @@ impl Process {
 
     // Take an answer: v is joined to the sum.
     pub fn take_answer(self, v: Aggregate) -> Event
-        ensures { λ r. ⌜ Rules.outcomeOf (r .reply) (r .process) ≡ Rules.takeAnswer v self ⌝ }
+        ensures { λ r. ⌜ Rules.eventOutcomeOf (r .reply) (r .process) ≡ Rules.takeAnswer v self ⌝ }
     {
         let t = self.config();
         let s = self.station;
@@ -294,7 +294,7 @@ impl Process {
 
     // Send the sum to the parent, which the root never does.
     pub fn send_answer(self) -> Event
-        ensures { λ r. ⌜ Rules.outcomeOf (r .reply) (r .process) ≡ Rules.sendAnswer self ⌝ }
+        ensures { λ r. ⌜ Rules.eventOutcomeOf (r .reply) (r .process) ≡ Rules.sendAnswer self ⌝ }
     {
         let t = self.config();
         let s = self.station;
@@ -305,7 +305,7 @@ impl Process {
 
     // Report the sum, which only the root does.
     pub fn report(self) -> Event
-        ensures { λ r. ⌜ Rules.outcomeOf (r .reply) (r .process) ≡ Rules.report self ⌝ }
+        ensures { λ r. ⌜ Rules.eventOutcomeOf (r .reply) (r .process) ≡ Rules.report self ⌝ }
     {
         let t = self.config();
         let s = self.station;
@@ -319,7 +319,7 @@ impl Process {
 
 // Take a start from a neighbour.
 pub fn take_start_in_place(p: &mut Process, from: u8) -> Reply
-    ensures { λ r. ⌜ Rules.outcomeOf r (now (p .exit)) ≡ Rules.takeStart from (now (p .entry)) ⌝ }
+    ensures { λ r. ⌜ Rules.eventOutcomeOf r (now (p .exit)) ≡ Rules.takeStart from (now (p .entry)) ⌝ }
 {
     let before = *p;
     let event = before.take_start(from);
@@ -329,7 +329,7 @@ pub fn take_start_in_place(p: &mut Process, from: u8) -> Reply
 
 // Send a start to a neighbour.
 pub fn send_start_in_place(p: &mut Process, to: u8) -> Reply
-    ensures { λ r. ⌜ Rules.outcomeOf r (now (p .exit)) ≡ Rules.sendStart to (now (p .entry)) ⌝ }
+    ensures { λ r. ⌜ Rules.eventOutcomeOf r (now (p .exit)) ≡ Rules.sendStart to (now (p .entry)) ⌝ }
 {
     let before = *p;
     let event = before.send_start(to);
@@ -339,7 +339,7 @@ pub fn send_start_in_place(p: &mut Process, to: u8) -> Reply
 
 // Take an answer.
 pub fn take_answer_in_place(p: &mut Process, v: Aggregate) -> Reply
-    ensures { λ r. ⌜ Rules.outcomeOf r (now (p .exit)) ≡ Rules.takeAnswer v (now (p .entry)) ⌝ }
+    ensures { λ r. ⌜ Rules.eventOutcomeOf r (now (p .exit)) ≡ Rules.takeAnswer v (now (p .entry)) ⌝ }
 {
     let before = *p;
     let event = before.take_answer(v);
@@ -349,7 +349,7 @@ pub fn take_answer_in_place(p: &mut Process, v: Aggregate) -> Reply
 
 // Send the sum to the parent.
 pub fn send_answer_in_place(p: &mut Process) -> Reply
-    ensures { λ r. ⌜ Rules.outcomeOf r (now (p .exit)) ≡ Rules.sendAnswer (now (p .entry)) ⌝ }
+    ensures { λ r. ⌜ Rules.eventOutcomeOf r (now (p .exit)) ≡ Rules.sendAnswer (now (p .entry)) ⌝ }
 {
     let before = *p;
     let event = before.send_answer();
@@ -359,7 +359,7 @@ pub fn send_answer_in_place(p: &mut Process) -> Reply
 
 // Report the sum.
 pub fn report_in_place(p: &mut Process) -> Reply
-    ensures { λ r. ⌜ Rules.outcomeOf r (now (p .exit)) ≡ Rules.report (now (p .entry)) ⌝ }
+    ensures { λ r. ⌜ Rules.eventOutcomeOf r (now (p .exit)) ≡ Rules.report (now (p .entry)) ⌝ }
 {
     let before = *p;
     let event = before.report();

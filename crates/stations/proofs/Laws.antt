@@ -20,7 +20,7 @@ use Rattle.station.specs.declared.Station.{Station}
 use Rattle.station.specs.Events.{asleep, active}
 use Rattle.station.specs.Form.{wellFormed}
 use Rattle.station.proofs.Formed.{facts}
-use Rattle.stations.specs.Stations.{stationAt, areWellFormed, outside, freshStation, freshStations}
+use Rattle.stations.specs.Stations.{stationAt, areWellFormed, blank, freshStation, freshStations}
 
 module _ (t : Config) (stations : List Station) (h : areWellFormed t stations ≡ true) where
   parts : (valid t ≡ true) × (allBelow (t .k) (λ i. wellFormed t i (stationAt stations i)) ≡ true)
@@ -46,8 +46,8 @@ module _ (t : Config) (stations : List Station) (h : areWellFormed t stations �
     replaced-formed m =
         rw config-valid
         (all-below-one (λ x. wellFormed t x (stationAt (set stations i s) x)) (t .k) i l
-        (λ x h n. ap (wellFormed t x) (getD-set-other stations i x s outside n) ∙ well-formed-at x h)
-        ∙ ap (wellFormed t i) (getD-set-same stations i s outside m))
+        (λ x h n. ap (wellFormed t x) (getD-set-other stations i x s blank n) ∙ well-formed-at x h)
+        ∙ ap (wellFormed t i) (getD-set-same stations i s blank m))
 
     pub replaced-kept : wellFormed t i s ≡ true → areWellFormed t (set stations i s) ≡ true
     replaced-kept f =
@@ -59,7 +59,7 @@ module _ (t : Config) (stations : List Station) (h : areWellFormed t stations �
     replaced-bounded f =
         by-bool (ltb i (length stations))
         (λ m. let inside = ltb-true i (length stations) m in
-        replaced-formed inside ∙ f ∙ ap (λ (x : Station). bounded t (x .held)) (sym (getD-set-same stations i s outside inside)))
+        replaced-formed inside ∙ f ∙ ap (λ (x : Station). bounded t (x .held)) (sym (getD-set-same stations i s blank inside)))
         (λ m. let same = set-out stations i s (ltb-false i (length stations) m) in
         ap (areWellFormed t) same ∙ h ∙ sym (ap (λ (x : List Station). bounded t (stationAt x i .held)) same ∙ held-bounded-at i l))
 
@@ -75,5 +75,5 @@ pub fresh-at : (t : Config) (counts neighbours : List ℕ) (i : ℕ) → t .k �
     }
 unfolding freshStations freshStation
 fresh-at t counts neighbours i most below =
-    getD-tabulate (λ i. freshStation t (getD counts i 0) (getD neighbours i 0) i) 64 i outside (omega arith)
+    getD-tabulate (λ i. freshStation t (getD counts i 0) (getD neighbours i 0) i) 64 i blank (omega arith)
     ∙ rw (lt-ltb i (t .k) below)

@@ -1,1 +1,5 @@
-../../tally/src/main.rt
+// The lot tally (document 01, "The program").
+
+fn main() {
+    program::run();
+}

@@ -9,7 +9,7 @@ use lib.Dec.{ltb}
 use lib.ListN.{length, set, length-append}
 use borrow.Author.Tests.{lt-ltb, le-ltb}
 use Rattle.text.specs.Text.{digit, digits}
-use Rattle.text.specs.Putting.{Room, Put}
+use Rattle.text.specs.internal.Putting.{Room, Put}
 use Rattle.text.proofs.Stores.{put-then, put-one}
 
 -- the digits of a number, as the tests of the code go

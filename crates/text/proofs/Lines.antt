@@ -1,11 +1,9 @@
--- Lines: each fits into the room asked for, is put from the front of the buffer, and is read back there. Assumes nothing.
-use mathlib.Core.Path.{_≡_, ap, _∙_}
+-- Lines: each fits into the room asked for, and is put from the front of the buffer. Assumes nothing.
+use mathlib.Core.Path.{_≡_}
 use mathlib.Core.List.{List}
 use Prim.Native.Nat.{ℕ, _+_, _≤_, _<_}
-use native.Mathlib.Nat.{zero-add}
 use native.Mathlib.Omega.{arith}
-use lib.ListN.{length, take, drop, length-append}
-use lib.Seq.{sets-eq, take-append-seam}
+use lib.ListN.{length, length-append}
 use borrow.Author.Tests.{lt-leb, le-leb}
 use Rattle.aggregate.specs.declared.Aggregate.{Aggregate}
 use Rattle.aggregate.specs.Aggregate.{sumOf}
@@ -13,8 +11,9 @@ use Rattle.text.specs.declared.Line.{Line}
 use Rattle.text.specs.declared.Line.the-variants.{Wake, Pass, Answer, Report, Closing, Refused, RefusedStation}
 use Rattle.text.specs.Ascii.{ascii}
 use Rattle.text.specs.Text.{item, aggregateText, wordsOf, textOf, lineRoom, textIn, over}
-use Rattle.text.specs.Putting.{Room, Put}
+use Rattle.text.specs.internal.Putting.{Room, Put}
 use Rattle.text.proofs.Digits.{digits-le}
+use Rattle.text.proofs.Stores.{put-front}
 
 item-le : (word : List ℕ) (n : ℕ) → length (item word n) ≤ length word + 20
 unfolding item
@@ -25,7 +24,7 @@ unfolding aggregateText
 aggregate-le a = item-le (ascii " ") (sumOf a)
 
 -- every line fits
-pub words-le : (line : Line) → length (wordsOf line) < lineRoom
+words-le : (line : Line) → length (wordsOf line) < lineRoom
 words-le (Wake s r) = rw length-append (omega (arith, item-le (ascii "wake ") s, item-le (ascii " ") r))
 words-le (Pass s r) = rw length-append (omega (arith, item-le (ascii "pass ") s, item-le (ascii " ") r))
 words-le (Answer s r a) =
@@ -37,6 +36,10 @@ words-le (Refused n) = omega (arith, item-le (ascii "refused ") n)
 words-le (RefusedStation n i) =
     rw length-append (omega (arith, item-le (ascii "refused ") n, item-le (ascii " station ") i))
 
+pub text-le : (line : Line) → length (textOf line) ≤ lineRoom
+unfolding textOf
+text-le line = rw length-append (omega (arith, words-le line))
+
 -- a buffer with less room than every line needs is left as it was
 pub line-left : (l : List ℕ) (line : Line) → length l < lineRoom
     → (0 ≡ length (textIn (length l) line)) × (l ≡ over (textIn (length l) line) l)
@@ -44,29 +47,10 @@ unfolding textIn
 line-left l line less = (rw (lt-leb lineRoom (length l) less), rw (lt-leb lineRoom (length l) less))
 
 pub line-room : (l : List ℕ) (line : Line) → lineRoom ≤ length l → Room l 0 (textOf line)
-unfolding textOf
-line-room l line enough =
-    record { fits = rw length-append (omega (arith, words-le line)) }
+line-room l line enough = record { fits = omega (arith, text-le line) }
 
 -- the whole line from the front
 pub line-put : {l l′ : List ℕ} {r : ℕ} (line : Line) → lineRoom ≤ length l → Put l 0 (textOf line) l′ r
     → (r ≡ length (textIn (length l) line)) × (l′ ≡ over (textIn (length l) line) l)
 unfolding textIn
-line-put {l} {l′} {r} line enough p =
-    let all : r ≡ length (textOf line) = omega (arith, p .end) in
-    let front : l′ ≡ over (textOf line) l =
-    p .bytes ∙ sets-eq (textOf line) l 0 (line-room l line enough .fits) ∙ rw zero-add in
-    (rw (le-leb lineRoom (length l) enough) all, rw (le-leb lineRoom (length l) enough) front)
-
--- a caller with room finds the line at the front of its buffer
-pub line-reads : (l : List ℕ) {l′ : List ℕ} {r : ℕ} (line : Line) → lineRoom ≤ length l → r ≡ length (textIn (length l) line)
-    → l′ ≡ over (textIn (length l) line) l
-    → (r ≤ length l′) × (take r l′ ≡ textOf line)
-unfolding textIn
-line-reads l {l′} {r} line enough count bytes =
-    let text : List ℕ = textOf line in
-    let all : r ≡ length text = rw (le-leb lineRoom (length l) enough) at count in
-    let front : l′ ≡ over text l = rw (le-leb lineRoom (length l) enough) at bytes in (
-      omega (arith, all, ap length front, length-append text (drop (length text) l)),
-      ap (λ (n : ℕ). take n l′) all ∙ ap (take (length text)) front ∙ take-append-seam text (drop (length text) l),
-    )
+line-put {l} line enough p = rw (le-leb lineRoom (length l) enough) (put-front (line-room l line enough) p)

@@ -1,13 +1,15 @@
--- The laws of `Put`, a run of bytes stored: one after another, a byte, one byte more of a word; and of the room for it. Assumes nothing.
+-- The laws of `Put`, a run of bytes stored: one after another, a byte, one byte more of a word, from the front; and of the room for it.
+-- Assumes nothing.
 use mathlib.Core.Path.{_≡_, refl, ap, sym, _∙_}
 use mathlib.Core.List.{List, [], _∷_, _++_}
 use Prim.Native.Nat.{ℕ, suc, _+_, _<_}
-use native.Mathlib.Nat.{add-zero, add-suc, suc-add}
+use native.Mathlib.Nat.{zero-add, add-zero, add-suc, suc-add}
 use native.Mathlib.Numerals.{add-one}
 use native.Mathlib.Omega.{arith}
 use lib.ListN.{length, set, take, getD, length-append}
-use lib.Seq.{sets, length-sets, length-take-le, take-suc}
-use Rattle.text.specs.Putting.{Room, Put}
+use lib.Seq.{sets, sets-eq, length-sets, length-take-le, take-suc}
+use Rattle.text.specs.Text.{over}
+use Rattle.text.specs.internal.Putting.{Room, Put}
 
 -- a run right after another is one run
 sets-sets : (vs ws l : List ℕ) (at : ℕ) → sets (sets l at vs) (at + length vs) ws ≡ sets l at (vs ++ ws)
@@ -37,6 +39,10 @@ room-first {l} {vs} {at} ws room = record { fits = omega (arith, length-append v
 pub room-next : {l l₁ vs ws : List ℕ} {at r : ℕ} → Room l at (vs ++ ws) → Put l at vs l₁ r → Room l₁ r ws
 room-next {l} {l₁} {vs} {ws} {at} {r} room p =
     record { fits = omega (arith, length-append vs ws, p .end, ap length (p .bytes), length-sets l at vs) }
+
+-- a run from the front, where there is room for it
+pub put-front : {l l′ vs : List ℕ} {r : ℕ} → Room l 0 vs → Put l 0 vs l′ r → (r ≡ length vs) × (l′ ≡ over vs l)
+put-front {l} {l′} {vs} room p = (omega (arith, p .end), p .bytes ∙ sets-eq vs l 0 (room .fits) ∙ rw zero-add)
 
 -- one byte more of a word
 pub put-more : {l l′ : List ℕ} {at : ℕ} (word : List ℕ) (i : ℕ) → i < length word → Put l at (take i word) l′ (at + i)

@@ -4,7 +4,7 @@ ghost use mathlib.Core.Path.{_≡_};
 ghost use mathlib.Core.List.{_++_};
 ghost use lib.ListN.{length};
 ghost use Rattle.text.specs.Text.{digits, item, aggregateText, wordsOf, textIn, over};
-ghost use Rattle.text.specs.Putting.{Room, Put};
+ghost use Rattle.text.specs.internal.Putting.{Room, Put};
 
 pub enum Line {
     // Sender and receiver.

@@ -8,9 +8,10 @@ use native.Mathlib.Omega.{arith}
 use lib.Dec.{eqb}
 use borrow.Author.Tests.{eqb-true}
 use Rattle.finite.proofs.Sums.{sum-lt, indicator-le, indicators-le}
-use Rattle.finite.specs.Sum.{addition, sumTo, indicator}
+use Rattle.finite.specs.Sum.{indicator}
+use Rattle.finite.specs.internal.Monoid.{addition, sumTo}
 use Rattle.finite.proofs.Cases.{clash, by-bool, by-sum, and-both, or-cases, or-left, or-right, eqb-self, find}
-use Rattle.wave.specs.Graph.{Chain, here, link}
+use Rattle.finite.specs.Links.{Chain, here, link}
 use Rattle.topology.specs.Acceptance.{anyBelow, near}
 use Rattle.topology.proofs.Searches.{any-of, any-is}
 

@@ -1,8 +1,8 @@
 -- Document 01's examples on acceptance ("Edges"), computed. Assumes nothing.
 use mathlib.Core.Path.{_≡_, refl}
 use mathlib.Core.List.{[], _∷_}
-use Rattle.finite.specs.Sum.{sumTo, indicator}
-use Rattle.wave.specs.Graph.{links}
+use Rattle.finite.specs.Sum.{foldTo, indicator}
+use Rattle.finite.specs.Links.{links}
 use Rattle.bitset.specs.Set.{member, within}
 use Rattle.topology.specs.Acceptance.{anyBelow, near, firstFrom, verdictOf, linksOf}
 
@@ -32,7 +32,7 @@ unfolding verdictOf firstFrom member within anyBelow near
 triangle = (refl, refl)
 
 triangle-links : linksOf 0 3 (6 ∷ 5 ∷ 3 ∷ []) ≡ 0 ∷ 3 ∷ []
-unfolding linksOf verdictOf firstFrom member within anyBelow near links sumTo indicator
+unfolding linksOf verdictOf firstFrom member within anyBelow near links foldTo indicator
 triangle-links = refl
 
 -- no station of three is station 3: each is apart

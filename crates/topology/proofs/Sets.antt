@@ -14,15 +14,17 @@ use lib.Pow.{pow-pos}
 use lib.Bits.{bitAnd, and-le-l}
 use borrow.Author.Tests.{eq-eqb, ne-eqb, lt-ltb, not-true}
 use Rattle.finite.proofs.Sums.{sum-ext}
-use Rattle.finite.specs.Sum.{addition, indicator}
+use Rattle.finite.specs.Sum.{indicator}
+use Rattle.finite.specs.internal.Monoid.{addition}
 use Rattle.finite.proofs.Cases.{clash, by-bool, and-both}
-use Rattle.bitset.specs.Set.{member, size, within, setOf}
+use Rattle.bitset.specs.Set.{member, size, within}
+use Rattle.bitset.specs.internal.Selected.{setOf}
 use Rattle.bitset.proofs.Bits.{member-worth}
 use Rattle.bitset.proofs.Laws.{same-members, empty-of-members, size-sum, within-lt}
 use Rattle.bitset.proofs.Selected.{set-lt, set-none, set-ext, set-member, member-and, member-mod}
 use Rattle.topology.specs.Acceptance.{anyBelow, linked, near, namesOneSided}
-use Rattle.topology.specs.Parts.{roundOf, countBelow}
-use Rattle.topology.specs.Matrix.{Transposed}
+use Rattle.topology.specs.internal.Parts.{roundOf, countBelow}
+use Rattle.topology.specs.internal.Matrix.{Transposed}
 use Rattle.topology.proofs.Searches.{any-of, any-is, any-ext}
 
 -- two sets, the first of stations below k, meet where some station below k is in both

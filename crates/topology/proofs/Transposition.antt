@@ -17,7 +17,7 @@ use Rattle.bitset.specs.Set.{member}
 use Rattle.bitset.proofs.Laws.{member-shift}
 use Rattle.bitset.proofs.Selected.{member-and, member-mod}
 use Rattle.topology.specs.Acceptance.{anyBelow}
-use Rattle.topology.specs.Matrix.{interleaved, exchangedRow, Exchanged, Transposed}
+use Rattle.topology.specs.internal.Matrix.{interleaved, exchangedRow, Exchanged, Transposed}
 use Rattle.topology.proofs.Searches.{any-of}
 
 -- the rows of a pass, as its loop stores them

@@ -10,11 +10,13 @@ use lib.ListN.{getD}
 use lib.Dec.{ltb, leb}
 use borrow.Author.Tests.{ltb-true, leb-true, lt-ltb, le-leb, not-false}
 use Rattle.finite.proofs.Cases.{clash, by-bool, and-both}
-use Rattle.wave.specs.Graph.{Graph}
-use Rattle.bitset.specs.Set.{member, within}
+use Rattle.wave.specs.internal.Graph.{Graph}
+use Rattle.bitset.specs.Set.{member, within, isStationCount}
 use Rattle.bitset.proofs.Laws.{within-member, within-members}
-use Rattle.topology.specs.Answer.{accepted, isAccepted, unless}
-use Rattle.topology.specs.Acceptance.{faultNumbers, isStationCount, linked, namesBeyond, namesItself, namesOneSided, isApart, lowest, verdictOf, Web}
+use Rattle.topology.specs.Answer.{accepted, isAccepted}
+use Rattle.finite.specs.Tests.{unless}
+use Rattle.topology.specs.Acceptance.{faultNumbers, linked, namesBeyond, namesItself, namesOneSided, isApart, lowest, verdictOf}
+use Rattle.topology.specs.Web.{Web, AcceptedWebs}
 use Rattle.topology.specs.declared.Fault.{Fault}
 use Rattle.topology.specs.declared.Fault.the-variants.{Stations, Beyond, Itself, OneWay, Apart}
 use Rattle.topology.proofs.Answers.{fault-refuses}
@@ -114,9 +116,9 @@ module _ (root k : ℕ) (sets : List ℕ) where
           le-leb k (lowest k (isApart root k sets)) apart,
         )
 
-  -- an accepted (k, sets) is a graph of k stations whose links are those that the sets name
-  abbrev pub graph-of : verdictOf root k sets ≡ accepted → Graph
-  graph-of e = graph (accepted-web (ap isAccepted e))
+-- accepted are just the webs
+pub accepted-webs : AcceptedWebs
+accepted-webs root k sets = ((λ e. accepted-web root k sets (ap isAccepted e)), web-accepted root k sets)
 
 -- a web asks only of the sets of stations below k
 pub web-agree : (root k : ℕ) (a b : List ℕ) → ((i : ℕ) → i < k → getD a i 0 ≡ getD b i 0) → Web root k a → Web root k b

@@ -1,14 +1,14 @@
 -- When a line map is accepted (document 01, "The line map", third paragraph). `sets` are the neighbours of the k stations; the root
 -- (01: the desk) is any station.
-use mathlib.Core.Path.{_≡_}
-use mathlib.Core.Bool.{Bool, true, false, not, _&&_, _||_, cond}
+use mathlib.Core.Bool.{Bool, false, not, _&&_, _||_, cond}
 use mathlib.Core.List.{List, [], _∷_}
-use Prim.Native.Nat.{ℕ, zero, suc, _<_, _≤_}
+use Prim.Native.Nat.{ℕ, zero, suc}
 use lib.ListN.{getD}
 use lib.Dec.{eqb, ltb, leb}
-use Rattle.wave.specs.Graph.{Chain, links}
-use Rattle.bitset.specs.Set.{member, within}
-use Rattle.topology.specs.Answer.{accepted, isAccepted, unless}
+use Rattle.finite.specs.Links.{links}
+use Rattle.bitset.specs.Set.{isStationCount, member, within}
+use Rattle.topology.specs.Answer.{accepted, isAccepted}
+use Rattle.finite.specs.Tests.{unless}
 use Rattle.topology.specs.declared.Fault.{Fault}
 use Rattle.topology.specs.declared.Fault.the-variants.{Stations, Beyond, Itself, OneWay, Apart}
 use Rattle.topology.specs.declared.Verdict.{Verdict}
@@ -34,10 +34,6 @@ verdictNumbers (verdict.Refused fault) = faultNumbers fault
 abbrev pub linksNumbers : LinksAnswer → List ℕ
 linksNumbers (answer.Counted m) = 0 ∷ m ∷ []
 linksNumbers (answer.Refused fault) = faultNumbers fault
-
--- "There are k stations, 1 to 64"
-abbrev pub isStationCount : ℕ → Bool
-isStationCount k = ltb 0 k && leb k 64
 
 -- "a set of neighbours": station i has a link to j
 abbrev pub linked : ℕ → List ℕ → ℕ → ℕ → Bool
@@ -66,7 +62,7 @@ near adj root k zero i = false
 near adj root k (suc t) i = eqb i root || anyBelow k (λ j. near adj root k t j && adj i j)
 
 -- "every station is joined to the desk by a chain of links". Fewer than k links are enough: `near-chain` and `chain-near`
--- (proofs/Chains) say that `near` at k is `Chain` of wave's Graph.
+-- (proofs/Chains) say that `near` at k is `Chain`.
 abbrev pub isApart : ℕ → ℕ → List ℕ → ℕ → Bool
 isApart root k sets i = not (near (linked k sets) root k k i)
 
@@ -90,19 +86,9 @@ verdictOf root k sets =
     (overAll k (namesBeyond k sets) Beyond
     (overAll k (namesItself sets) Itself
     (overAll k (namesOneSided k sets) OneWay
-    (overAll k (isApart root k sets) Apart
-    accepted))))
+    (overAll k (isApart root k sets) Apart accepted))))
 
 -- "A link is an unordered pair; m counts them": m of an accepted map
 unfoldable pub linksOf : ℕ → ℕ → List ℕ → List ℕ
 linksOf root k sets =
     unless (isAccepted (verdictOf root k sets)) (verdictOf root k sets) (linksNumbers (answer.Counted (links k (linked k sets))))
-
--- what acceptance says, as facts: `accepted-web` and `web-accepted` (proofs/Webs) say that `verdictOf` accepts just these
-pub record Web (root k : ℕ) (sets : List ℕ) : Type 0 where
-  pub some-station : 0 < k
-  pub few-stations : k ≤ 64
-  pub named-below : (i j : ℕ) → i < k → member j (getD sets i 0) ≡ true → j < k
-  pub not-itself : (i : ℕ) → i < k → member i (getD sets i 0) ≡ false
-  pub named-back : (i j : ℕ) → i < k → j < k → member j (getD sets i 0) ≡ true → member i (getD sets j 0) ≡ true
-  pub joined : (i : ℕ) → i < k → Chain (linked k sets) root i

@@ -1,6 +1,6 @@
 -- Answers by document 01's numbers ("Causes and numbers"): what is returned is a list, a number and then its values. Number 0,
 -- which the table has not, stands for an answer that refuses nothing.
-use mathlib.Core.Bool.{Bool, true, false}
+use mathlib.Core.Bool.{Bool, false}
 use mathlib.Core.List.{List, [], _∷_}
 use Prim.Native.Nat.{ℕ}
 use lib.Dec.{eqb}
@@ -13,8 +13,3 @@ accepted = 0 ∷ []
 abbrev pub isAccepted : List ℕ → Bool
 isAccepted [] = false
 isAccepted (number ∷ values) = eqb number 0
-
--- a rule and what stands after it: the refusal, unless the test holds
-abbrev pub unless : {A : Type 0} → Bool → A → A → A
-unless true refusal rest = rest
-unless false refusal rest = refusal

@@ -1,4 +1,4 @@
 pub mod Answer
 pub mod Acceptance
-pub mod Parts
-pub mod Matrix
+pub mod Web
+pub mod internal

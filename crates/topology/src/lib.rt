@@ -6,10 +6,11 @@ use bitset::size;
 ghost use mathlib.Core.Path.{_≡_};
 ghost use mathlib.Core.Bool.{true};
 ghost use Prim.Native.Nat.{_<_, _≤_};
-ghost use Rattle.wave.specs.Graph;
+ghost use Rattle.finite.specs.Links;
+ghost use Rattle.bitset.specs.Set;
 ghost use Rattle.topology.specs.Acceptance;
-ghost use Rattle.topology.specs.Matrix;
-ghost use Rattle.topology.specs.Parts;
+ghost use Rattle.topology.specs.internal.Matrix;
+ghost use Rattle.topology.specs.internal.Parts;
 
 mod matrix;
 
@@ -42,15 +43,6 @@ enum Rule {
     Itself,
     OneWay,
     Apart(u64),
-}
-
-const MOST_STATIONS: u64 = 64;
-
-// Whether a map may have k stations.
-pub fn is_station_count(k: u64) -> bool
-    ensures { λ r. ⌜ r ≡ Acceptance.isStationCount k ⌝ }
-{
-    (0 < k) & (k <= MOST_STATIONS)
 }
 
 // Whether station i breaks the rule. The namers of a station are those that name it.
@@ -124,7 +116,7 @@ fn reach(root: u8, k: u8, sets: &[u64; 64]) -> u64
 
 // The rules over all stations: the first that is broken, and by whom.
 fn judge(root: u8, k: u8, sets: &[u64; 64], namers: &[u64; 64]) -> Verdict
-    requires { ⌜ (Acceptance.isStationCount k ≡ true) × Matrix.Transposed (now sets) (now namers) ⌝ }
+    requires { ⌜ (Set.isStationCount k ≡ true) × Matrix.Transposed (now sets) (now namers) ⌝ }
     ensures { λ r. ⌜ Acceptance.verdictNumbers r ≡ Acceptance.verdictOf root k (now (sets .entry)) ⌝ }
 {
     let beyond = find_lowest(Rule::Beyond, k, sets, namers);
@@ -151,7 +143,7 @@ fn judge(root: u8, k: u8, sets: &[u64; 64], namers: &[u64; 64]) -> Verdict
 pub fn accept(root: u8, k: u8, sets: &[u64; 64]) -> Verdict
     ensures { λ r. ⌜ Acceptance.verdictNumbers r ≡ Acceptance.verdictOf root k (now (sets .entry)) ⌝ }
 {
-    if !is_station_count(k as u64) {
+    if !bitset::is_station_count(k as u64) {
         return Verdict::Refused(Fault::Stations);
     }
     let namers = matrix::transpose(sets);
@@ -170,7 +162,7 @@ fn count_below(set: u64, i: u8) -> u32
 // The pairs of a station and a lower one that it names.
 fn count_links(k: u8, sets: &[u64; 64]) -> u32
     requires { ⌜ k ≤ 64 ⌝ }
-    ensures { λ r. ⌜ r ≡ Graph.links k (Acceptance.linked k (now (sets .entry))) ⌝ }
+    ensures { λ r. ⌜ r ≡ Links.links k (Acceptance.linked k (now (sets .entry))) ⌝ }
 {
     let mut total: u32 = 0;
     let mut i: u8 = 0;

@@ -3,7 +3,7 @@
 ghost use mathlib.Core.Path.{_≡_};
 ghost use Prim.Native.Nat.{_<_};
 ghost use lib.ListN.{length};
-ghost use Rattle.topology.specs.Matrix;
+ghost use Rattle.topology.specs.internal.Matrix;
 
 pub(crate) struct Square {
     pub(crate) rows: [u64; 64],

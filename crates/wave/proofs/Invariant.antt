@@ -9,10 +9,11 @@ use lib.Dec.{eqb}
 use borrow.Author.Tests.{eqb-true, eqb-false, eq-eqb, ne-eqb, not-true}
 use Rattle.finite.proofs.Cases.{clash, by-bool, by-eq, by-sum, and-both, or-cases, or-right, or-left, eqb-self}
 use Rattle.wave.proofs.Carried.{carried-cases, carried-new, carried-other}
-use Rattle.finite.specs.Sum.{CommMonoid, sumTo}
+use Rattle.finite.specs.internal.Monoid.{CommMonoid, sumTo}
 use Rattle.finite.proofs.Sums.{except, sum-ext, sum-unit, sum-extract, sum-move}
-use Rattle.wave.specs.Graph.{Chain, here, link, Graph}
-use Rattle.wave.specs.Wave.{Step, message, report, State, answers, fresh, next, Heard, CanSend, CanReport, Weak}
+use Rattle.wave.specs.internal.Graph.{Graph}
+use Rattle.finite.specs.Links.{Chain, here, link}
+use Rattle.wave.specs.internal.Wave.{Step, message, report, State, answers, fresh, next, Heard, CanSend, CanReport, Weak}
 
 -- i has answered, so that its value is in its parent's
 abbrev pub spent : {A : Type 0} → Graph → State A → ℕ → Bool

@@ -3,9 +3,10 @@ use mathlib.Core.Path.{_≡_, refl, ap}
 use mathlib.Core.Bool.{Bool, true, false}
 use Prim.Native.Nat.{ℕ, zero, suc, _*_, _<_, _≤_}
 use native.Mathlib.Omega.{arith}
-use Rattle.finite.specs.Sum.{addition, sumTo, indicator}
+use Rattle.finite.specs.Sum.{foldTo, indicator}
+use Rattle.finite.specs.internal.Monoid.{addition, sumTo}
 use Rattle.finite.proofs.Sums.{sum-ext, sum-le, sum-unit, sum-bump, sum-add, indicator-le}
-use Rattle.wave.specs.Graph.{links}
+use Rattle.finite.specs.Links.{links}
 
 -- how many ordered pairs of numbers below k pass a test
 unfoldable pub pairs : ℕ → (ℕ → ℕ → Bool) → ℕ
@@ -31,7 +32,7 @@ pairs-bump k i j p q hi hj f t o =
 -- a mutual relation that no number has to itself has two ordered pairs for each link
 pub pairs-links : (k : ℕ) (p : ℕ → ℕ → Bool) → ((i j : ℕ) → p i j ≡ p j i) → ((i : ℕ) → p i i ≡ false)
     → pairs k p ≡ 2 * links k p
-unfolding pairs links sumTo indicator
+unfolding pairs links foldTo indicator
 pairs-links zero p s n = refl
 pairs-links (suc k) p s n =
     let same : sumTo addition k (λ i. indicator (p i k)) ≡ sumTo addition k (λ j. indicator (p k j)) = sum-ext addition k _ _ (λ i l. ap indicator (s i k)) in

@@ -6,9 +6,10 @@ use mathlib.Core.Logic.{_⊎_, inl, inr}
 use Prim.Native.Nat.{ℕ, zero, suc, _+_, _<_, _≤_}
 use native.Mathlib.Omega.{arith}
 use Rattle.finite.proofs.Cases.{clash, by-bool, by-sum, find}
-use Rattle.finite.specs.Sum.{CommMonoid}
-use Rattle.wave.specs.Graph.{Chain, here, link, Graph}
-use Rattle.wave.specs.Wave.{Step, message, report, State, answers, Strong}
+use Rattle.finite.specs.internal.Monoid.{CommMonoid}
+use Rattle.wave.specs.internal.Graph.{Graph}
+use Rattle.finite.specs.Links.{Chain, here, link}
+use Rattle.wave.specs.internal.Wave.{Step, message, report, State, answers, Strong}
 use Rattle.wave.proofs.Invariant.{Inv, answers-both}
 
 module _ {A : Type 0} (g : Graph) (M : CommMonoid A) (counts : ℕ → A) (S : State A) (I : Inv g M counts S) where

@@ -7,12 +7,14 @@ use mathlib.Core.List.{List, [], _∷_, map}
 use Prim.Native.Nat.{ℕ, _+_, _*_, _≤_}
 use native.Mathlib.Omega.{arith}
 use lib.ListN.{length}
-use Rattle.finite.specs.Sum.{CommMonoid, indicator}
+use Rattle.finite.specs.Sum.{indicator}
+use Rattle.finite.specs.internal.Monoid.{CommMonoid}
 use Rattle.finite.proofs.Cases.{clash, by-bool}
 use Rattle.finite.proofs.Sums.{indicator-most, indicator-one}
-use Rattle.wave.specs.Graph.{Graph, links}
-use Rattle.wave.specs.Wave.{Step, message, report, State, fresh, next, Weak, Strong}
-use Rattle.wave.specs.Claim.{times, Runs, reached, AtRest, Demand}
+use Rattle.wave.specs.internal.Graph.{Graph}
+use Rattle.finite.specs.Links.{links}
+use Rattle.wave.specs.internal.Wave.{Step, message, report, State, fresh, next, Weak, Strong}
+use Rattle.wave.specs.internal.Claim.{times, Runs, reached, AtRest, WaveClaim}
 use Rattle.wave.proofs.Pairs.{pairs, pairs-none, pairs-le, pairs-links}
 use Rattle.wave.proofs.Invariant.{Inv, fresh-inv, keep, root-holds-total}
 use Rattle.wave.proofs.Progress.{some-step}
@@ -48,7 +50,7 @@ module _ {A : Type 0} (g : Graph) (M : CommMonoid A) (counts : ℕ → A) where
       → number ≡ reached (next g M) (fresh g counts) made .value (g .root)
       → (reached (next g M) (fresh g counts) made .reported ≡ true → rest)
       → (rest → reached (next g M) (fresh g counts) made .reported ≡ true)
-      → Demand (g .size) (g .adj) M counts made rest number
+      → WaveClaim (g .size) (g .adj) M counts made rest number
   unfolding indicator
   demand-of-state made rest number l number-is to-rest from-rest =
       let S = reached (next g M) (fresh g counts) made in
@@ -101,7 +103,7 @@ module _ {A : Type 0} (g : Graph) (M : CommMonoid A) (counts : ℕ → A) where
 
     -- after every list of allowed moves from the opened net
     pub refinement-demand : (ms : List (K .Move)) → Runs (K .Allowed) (K .make) (K .opened) ms
-        → Demand (g .size) (g .adj) M counts (map (K .label) ms) (AtRest (K .Allowed) (reached (K .make) (K .opened) ms)) (K .result (reached (K .make) (K .opened) ms))
+        → WaveClaim (g .size) (g .adj) M counts (map (K .label) ms) (AtRest (K .Allowed) (reached (K .make) (K .opened) ms)) (K .result (reached (K .make) (K .opened) ms))
     refinement-demand ms r =
         let n = reached (K .make) (K .opened) ms in
         let S = reached (next g M) (fresh g counts) (map (K .label) ms) in

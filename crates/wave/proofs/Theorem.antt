@@ -3,10 +3,10 @@
 use mathlib.Core.Path.{_≡_, refl, sym, ap, subst}
 use mathlib.Core.List.{List, map-id}
 use Prim.Native.Nat.{ℕ}
-use Rattle.finite.specs.Sum.{CommMonoid}
-use Rattle.wave.specs.Graph.{Graph}
-use Rattle.wave.specs.Wave.{Step, State, fresh, next, Guard}
-use Rattle.wave.specs.Claim.{Runs, reached, AtRest, Demand}
+use Rattle.finite.specs.internal.Monoid.{CommMonoid}
+use Rattle.wave.specs.internal.Graph.{Graph}
+use Rattle.wave.specs.internal.Wave.{Step, State, fresh, next, Guard}
+use Rattle.wave.specs.internal.Claim.{Runs, reached, AtRest, WaveClaim}
 use Rattle.wave.proofs.Refinement.{Refinement, refinement-demand}
 
 module _ {A : Type 0} (g : Graph) (M : CommMonoid A) (counts : ℕ → A) (G : Guard A g) where
@@ -29,6 +29,6 @@ module _ {A : Type 0} (g : Graph) (M : CommMonoid A) (counts : ℕ → A) (G : G
       }
 
   pub order-of-links : (made : List Step) → Runs (G .Allows) (next g M) (fresh g counts) made
-      → Demand (g .size) (g .adj) M counts made (AtRest (G .Allows) (reached (next g M) (fresh g counts) made)) (reached (next g M) (fresh g counts) made .value (g .root))
+      → WaveClaim (g .size) (g .adj) M counts made (AtRest (G .Allows) (reached (next g M) (fresh g counts) made)) (reached (next g M) (fresh g counts) made .value (g .root))
   unfolding states
   order-of-links made r = rw map-id at (refinement-demand g M counts states made r)

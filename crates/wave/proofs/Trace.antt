@@ -10,11 +10,12 @@ use lib.Dec.{eqb}
 use borrow.Author.Tests.{eqb-true}
 use Rattle.finite.proofs.Cases.{clash, and-both}
 use Rattle.wave.proofs.Carried.{carried-new, carried-other}
-use Rattle.finite.specs.Sum.{CommMonoid, indicator}
+use Rattle.finite.specs.Sum.{indicator}
+use Rattle.finite.specs.internal.Monoid.{CommMonoid}
 use Rattle.wave.proofs.Pairs.{pairs, pairs-bump}
-use Rattle.wave.specs.Graph.{Graph}
-use Rattle.wave.specs.Wave.{Step, message, report, State, next, Weak}
-use Rattle.wave.specs.Claim.{times, Runs, reached}
+use Rattle.wave.specs.internal.Graph.{Graph}
+use Rattle.wave.specs.internal.Wave.{Step, message, report, State, next, Weak}
+use Rattle.wave.specs.internal.Claim.{times, Runs, reached}
 use Rattle.wave.proofs.Invariant.{Inv, keep}
 
 -- a mark set where there was none counts once

@@ -1,3 +1,1 @@
-pub mod Graph
-pub mod Wave
-pub mod Claim
+pub mod internal

@@ -1,12 +1,14 @@
-//! The library from C: the header under strict flags, the test programs of tests/c, and the worked examples of
-//! examples/c with what document 01 implies that they print.
+//! The library from C: the header under strict flags, as C and as C++, the test programs of tests/c, and the worked
+//! examples of examples/c with what document 01 implies that they print.
 
 use std::collections::BTreeSet;
 use std::fs;
 use std::path::{Path, PathBuf};
 use std::process::Command;
 
-const STRICT: [&str; 6] = ["-std=c11", "-Wall", "-Wextra", "-Werror", "-pedantic", "-O2"];
+const STRICT: [&str; 5] = ["-Wall", "-Wextra", "-Werror", "-pedantic", "-O2"];
+const C: [&str; 4] = ["gcc", "-std=c11", "-x", "c"];
+const CPP: [&str; 4] = ["g++", "-std=c++17", "-x", "c++"];
 
 /// Set by the build script.
 const ARCHIVE_FOLDER: &str = env!("TALLY_ARCHIVE_FOLDER");
@@ -27,13 +29,18 @@ fn printed(command: &mut Command) -> String {
     String::from_utf8(output.stdout).expect("text")
 }
 
-/// What a C program prints, built against the header and linked with the archive.
-fn run(source: &str, more_flags: &[&str]) -> String {
-    let program = Path::new(env!("CARGO_TARGET_TMPDIR")).join(source.replace(['/', '.'], "-"));
-    let mut gcc = Command::new("gcc");
-    gcc.args(STRICT).args(more_flags).arg("-I").arg(in_repository("include")).arg(in_repository(source));
-    printed(gcc.arg("-L").arg(ARCHIVE_FOLDER).arg("-lcapi").arg("-o").arg(&program));
+/// What a program prints, built by a compiler against the header and linked with the archive.
+fn run_as([compiler, language @ ..]: [&str; 4], source: &str, more_flags: &[&str]) -> String {
+    let program = Path::new(env!("CARGO_TARGET_TMPDIR")).join(format!("{source}-{compiler}").replace(['/', '.'], "-"));
+    let mut build = Command::new(compiler);
+    build.args(STRICT).args(more_flags).arg("-I").arg(in_repository("include"));
+    build.args(language).arg(in_repository(source)).args(["-x", "none"]);
+    printed(build.arg("-L").arg(ARCHIVE_FOLDER).arg("-lcapi").arg("-o").arg(&program));
     printed(&mut Command::new(program))
+}
+
+fn run(source: &str, more_flags: &[&str]) -> String {
+    run_as(C, source, more_flags)
 }
 
 /// The functions that the header declares: the names before an opening parenthesis.
@@ -58,6 +65,7 @@ fn symbols() -> Vec<(String, char)> {
 #[test]
 fn header_stands_alone() {
     assert_eq!(run("tests/c/header.c", &["-ffreestanding"]), "");
+    assert_eq!(run_as(CPP, "tests/c/header.c", &[]), "");
 }
 
 #[test]
@@ -98,15 +106,16 @@ fn stations_with_mail() {
     assert_eq!(run("tests/c/mail.c", &[]), "");
 }
 
-/// "Every call takes less than 64 KB of stack": every one that the header declares is measured.
+/// "Bytes of stack that no call takes more than", by kind of call: every one that the header declares is measured.
 #[cfg(feature = "mail")]
 #[test]
 fn stack() {
-    let measured = run("tests/c/stack.c", &[]);
-    let calls: Vec<(&str, &str)> = measured.lines().filter_map(|line| line.split_once(' ')).collect();
-    assert_eq!(calls.iter().map(|(name, _)| name.to_string()).collect::<BTreeSet<_>>(), declared());
-    for (name, bytes) in calls {
-        assert!(bytes.parse::<usize>().expect("a number of bytes") < 64 << 10, "{name} takes {bytes} bytes of stack");
+    let measured = run("tests/c/stack.c", &["-Wl,-z,now"]);
+    let calls: Vec<Vec<&str>> = measured.lines().map(|line| line.split(' ').collect()).collect();
+    assert_eq!(calls.iter().map(|call| call[0].to_string()).collect::<BTreeSet<_>>(), declared());
+    for call in calls {
+        let [bytes, most] = [call[1], call[2]].map(|figure| figure.parse::<usize>().expect("a number of bytes"));
+        assert!(bytes <= most, "{} takes {bytes} bytes of stack, and the header says {most}", call[0]);
     }
 }
 

@@ -4,19 +4,19 @@ use mathlib.Core.Path.{_≡_, _∙_, ap}
 use Prim.Native.Nat.{ℕ, _≤_, _-_, _/_, _%_, _^_}
 use native.Mathlib.Omega.{arith}
 use borrow.Author.Needs.{needs}
-use Rattle.bitset.specs.Set.{count, size}
+use Rattle.bitset.specs.Set.{membersBelow, size}
 use Rattle.bitset.proofs.Bits.{count-byte, count-le}
 use Rattle.bitset.proofs.size.Statement.{statement}
 use Rattle.bitset.proofs.size.Tie as tie
 
 abbrev Inv-loop : tie.InvT-loop
-Inv-loop set sum₀ at₀ sum at = (at ≤ 64) × (at % 8 ≡ 0) × (sum ≡ count at set)
+Inv-loop set sum₀ at₀ sum at = (at ≤ 64) × (at % 8 ≡ 0) × (sum ≡ membersBelow at set)
 
 abbrev μ-loop : tie.MeasureT-loop
 μ-loop set sum₀ at₀ sum at = 64 - at
 
 loop-holds : tie.Need-loop-holds Inv-loop μ-loop
-unfolding count
+unfolding membersBelow
 loop-holds c = search needs
 
 cast-byte-size : tie.Need-cast-byte-size Inv-loop μ-loop
@@ -59,7 +59,7 @@ returns : tie.Need-returns Inv-loop μ-loop
 unfolding size
 returns c =
     let end : c .before .loop .at ≡ 64 = omega arith in
-    c .before .loop .inv .2 ∙ ap (λ (n : ℕ). count n (c .before .before .args .set)) end
+    c .before .loop .inv .2 ∙ ap (λ (n : ℕ). membersBelow n (c .before .before .args .set)) end
 
 pub size-spec : {M : Type 1} → statement M
 size-spec =

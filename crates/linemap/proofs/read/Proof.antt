@@ -1,25 +1,33 @@
--- `linemap::read` meets its contract: the trailer refuses, or leaves the sum of the words and the rows. Assumes nothing.
-use mathlib.Core.Path.{_≡_, sym, ap, _∙_, subst}
+-- `linemap::read` meets its contract: there is no trailer, its fields are refused, or the rows are left. Assumes nothing.
+use mathlib.Core.Path.{_≡_, sym, ap, _∙_}
 use native.Mathlib.Omega.{arith}
-use borrow.Author.Tests.{eq-eqb, ne-eqb}
+use Prim.Native.Nat.{_<_, _≤_}
 use borrow.Author.Needs.{needs}
-use Rattle.linemap.specs.Numbers.{sumWords}
-use Rattle.linemap.specs.Stored.{wordCount}
-use Rattle.linemap.specs.Reading.{outcomeOf}
-use Rattle.linemap.specs.Stages.{Found, TrailerSays, trailerAnswer, unreadBy}
+use Rattle.linemap.specs.Reading.{ReadOutcome, readOutcomeOf, reading}
+use Rattle.linemap.specs.internal.Stages.{rowsOutcome, unreadBy}
+use Rattle.linemap.specs.declared.ReadAnswer.{ReadAnswer}
+use Rattle.linemap.proofs.Rules.{answered, ruled, reading-ruled, trailer-few}
 use Rattle.linemap.proofs.read.Statement.{statement}
 use Rattle.linemap.proofs.read.Tie as tie
 
--- the trailer was found
-is-found : (c : tie.After-known-told)
-    → let g = c .before .trailer .given .0 in Found (c .before .before .before .before .before .args .s .now) (g .0) (g .1 .0) (g .1 .1 .0)
-is-found c =
-    subst (TrailerSays (c .before .before .before .before .before .args .s .now)) (c .before .trailer .given .1) (c .before .before .before .read-trailer .ensures)
+-- the rows, at the trailer's fields
+abbrev rest : tie.After-judge-trailer → ReadOutcome
+rest c =
+    let fields = c .before .before .trailer .given .0 in
+    rowsOutcome (c .before .before .before .before .before .before .args .s .now) (fields .0) (fields .1 .1 .1 .0)
 
-summed : (c : tie.After-sum-words)
-    → let g = c .before .before .before .trailer .given .0 in
-    c .sum-words .result ≡ sumWords (c .before .before .before .before .before .before .before .args .s .now) (g .1 .1 .0) (wordCount (g .0))
-summed c = rw (c .before .stored-length .ensures) at (c .sum-words .ensures)
+-- the answer on the fields, and what it leaves
+so-far : (c : tie.After-judge-trailer)
+    → reading (c .before .before .before .before .before .before .args .s .now) ≡ answered (c .judge-trailer .result) (rest c)
+so-far c =
+    let s = c .before .before .before .before .before .before .args .s .now in
+    reading-ruled s
+    ∙ ap (ruled s) (sym (c .before .before .before .before .read-trailer .ensures) ∙ c .before .before .trailer .given .1)
+    ∙ ap (λ (a : ReadAnswer). answered a (rest c)) (sym (c .judge-trailer .ensures))
+
+few : (c : tie.After-enum-told2)
+    → let stations = c .before .before .before .before .trailer .given .0 .0 in (0 < stations) × (stations ≤ 64)
+few c = trailer-few _ _ _ (sym (c .before .before .judge-trailer .ensures) ∙ c .enum-told2 .given .1)
 
 read-trailer-requires : tie.Need-read-trailer-requires
 read-trailer-requires c κs = search needs
@@ -30,40 +38,43 @@ enum-known-trailer c = search needs
 enum-told : tie.Need-enum-told
 enum-told c = search needs
 
-trailer-answer-requires : tie.Need-trailer-answer-requires
-trailer-answer-requires c κs = search needs
-
 unread-requires : tie.Need-unread-requires
 unread-requires c κs = search needs
 
 returns : tie.Need-returns
 returns c =
-    let e = c .before .before .enum-told .given .1 in
-    ap outcomeOf (c .unread .ensures ∙ ap unreadBy (c .before .trailer-answer .ensures ∙ ap trailerAnswer e))
-    ∙ sym (subst (TrailerSays (c .before .before .before .before .before .before .args .s .now)) e
-    (c .before .before .before .before .read-trailer .ensures))
+    let s = c .before .before .before .before .before .args .s .now in
+    ap readOutcomeOf (c .unread .ensures)
+    ∙ sym (reading-ruled s ∙ ap (ruled s) (sym (c .before .before .before .read-trailer .ensures) ∙ c .before .enum-told .given .1))
 
-stored-length-requires : tie.Need-stored-length-requires
-stored-length-requires c κs = search needs
+judge-trailer-requires : tie.Need-judge-trailer-requires
+judge-trailer-requires c κs = search needs
 
-sum-words-requires : tie.Need-sum-words-requires
-sum-words-requires c κs = let f = is-found (c .before) in omega (arith, c .stored-length .ensures, f .few, f .ends)
+enum-told-2 : tie.Need-enum-told-2
+enum-told-2 c = search needs
+
+enum-told-3 : tie.Need-enum-told-3
+enum-told-3 c = search needs
 
 unread-requires-2 : tie.Need-unread-requires-2
 unread-requires-2 c κs = search needs
 
 returns-2 : tie.Need-returns-2
 returns-2 c =
-    let no = ne-eqb _ 0 (λ z. c .before .if1 .taken (summed (c .before .before) ∙ z)) in
-    ap outcomeOf (c .unread2 .ensures) ∙ sym (rw no at (is-found (c .before .before .before .before) .rest))
+    let refused = c .before .enum-told3 .given .1 in
+    ap readOutcomeOf (c .unread2 .ensures ∙ ap unreadBy refused)
+    ∙ sym (so-far (c .before .before .before) ∙ ap (λ (a : ReadAnswer). answered a (rest (c .before .before .before))) refused)
+
+cast-read-rows : tie.Need-cast-read-rows
+cast-read-rows c = omega (arith, few c)
 
 read-rows-requires : tie.Need-read-rows-requires
-read-rows-requires c κs = let f = is-found (c .before .before .before) in (f .few, omega (arith, f .ends))
+read-rows-requires c κs = few c
 
 returns-3 : tie.Need-returns-3
 returns-3 c =
-    let yes = eq-eqb _ 0 (sym (summed (c .before .before)) ∙ c .before .if1 .left) in
-    c .read-rows .ensures ∙ sym (rw yes at (is-found (c .before .before .before .before) .rest))
+    c .read-rows .ensures
+    ∙ sym (so-far (c .before .before .before) ∙ ap (λ (a : ReadAnswer). answered a (rest (c .before .before .before))) (c .before .enum-told2 .given .1))
 
 pub read-spec : {M : Type 1} → statement M
 read-spec =
@@ -72,12 +83,13 @@ read-spec =
     read-trailer-requires
     enum-known-trailer
     enum-told
-    trailer-answer-requires
     unread-requires
     returns
-    stored-length-requires
-    sum-words-requires
+    judge-trailer-requires
+    enum-told-2
+    enum-told-3
     unread-requires-2
     returns-2
+    cast-read-rows
     read-rows-requires
     returns-3)

@@ -6,8 +6,8 @@ use lib.ListN.{length-replicate}
 use borrow.Author.Needs.{needs}
 use borrow.Author.Tests.{not-true, not-false}
 use Rattle.schedule.specs.Rules.{allowed}
-use Rattle.schedule.specs.Outcome.{accepted}
-use Rattle.schedule.specs.Rows.{Filled}
+use Rattle.schedule.specs.Outcome.{stepMade}
+use Rattle.schedule.specs.internal.Rows.{Filled}
 use Rattle.schedule.proofs.Outcomes.{draw-unformed}
 use Rattle.schedule.proofs.Drawing.{drawn-nothing, drawn-allowed, drawn-accepted}
 use Rattle.mailbox.specs.Net.{Net, netOf, wellFormed}
@@ -109,7 +109,7 @@ returns-3 c =
     let told = c .before .before .before .before in
     let pick = told .before .before .before in
     let s = told .before .drawn .given .0 .0 in
-    ap (accepted s) (rw (c .receive .ensures .0, c .receive .ensures .1) (sym (applied-is (netAt pick) s)))
+    ap (stepMade s) (rw (c .receive .ensures .0, c .receive .ensures .1) (sym (applied-is (netAt pick) s)))
     ∙ sym (drawn-accepted rules (netAt pick) (fills pick) _ (pick .pick .ensures) (formed (formedOf pick)) (told .before .drawn .given .1))
 
 pub draw-spec : {M : Type 1} → statement M

@@ -5,7 +5,7 @@ use Prim.Native.Nat.{_<_}
 use borrow.Author.Needs.{needs}
 use borrow.Author.Tests.{not-true, not-false}
 use Rattle.schedule.specs.Rules.{inRange, allowed}
-use Rattle.schedule.specs.Outcome.{accepted}
+use Rattle.schedule.specs.Outcome.{stepMade}
 use Rattle.schedule.proofs.Outcomes.{step-unformed, step-outside, step-barred, step-taken}
 use Rattle.mail.proofs.Guards.{box-read}
 use Rattle.mailbox.specs.Net.{Net, netOf, wellFormed}
@@ -110,7 +110,7 @@ returns-4 c =
     let start = last .before .before .before .before .before .before .before .before .before .before .before .before in
     let net = netAt start in
     let s = start .args .step in
-    ap (accepted s) (rw (c .receive .ensures .0, c .receive .ensures .1) (sym (applied-is net s)))
+    ap (stepMade s) (rw (c .receive .ensures .0, c .receive .ensures .1) (sym (applied-is net s)))
     ∙ sym (step-taken rules net s (formed (past .before .before .before)) (ranged past) (sym (tests (last .before)) ∙ not-false _ (last .if3 .left)))
 
 pub step-spec : {M : Type 1} → statement M

@@ -6,14 +6,14 @@ use lib.ListN.{length-replicate}
 use borrow.Author.Needs.{needs}
 use borrow.Author.Tests.{not-true, not-false}
 use Rattle.schedule.specs.Rules.{inRange, allowed}
-use Rattle.schedule.specs.Rows.{Filled}
-use Rattle.schedule.specs.Outcome.{accepted}
+use Rattle.schedule.specs.internal.Rows.{Filled}
+use Rattle.schedule.specs.Outcome.{stepMade}
 use Rattle.schedule.proofs.Answers.{allowed-parts}
 use Rattle.schedule.proofs.Outcomes.{draw-unformed}
 use Rattle.schedule.proofs.Drawing.{drawn-nothing, drawn-allowed, drawn-accepted}
 use Rattle.rendezvous.specs.declared.Net.{Net}
 use Rattle.rendezvous.specs.Net.{wellFormed}
-use Rattle.rendezvous.specs.Receivers.{sentIn}
+use Rattle.rendezvous.specs.internal.Receivers.{sentIn}
 use Rattle.rendezvous.specs.Rules.{rules}
 use Rattle.rendezvous.proofs.Laws.{k-most, places, sums-joinable}
 use Rattle.rendezvous.proofs.RowSets.{rows-filled}
@@ -131,7 +131,7 @@ returns-3 c =
     let told = c .before .before .before .before .before .before .before in
     let pick = told .before .before .before in
     let step = told .before .drawn .given .0 .0 in
-    ap (accepted step) (made-is (netOf pick) step (may told) (c .before .before .meet .ensures))
+    ap (stepMade step) (made-is (netOf pick) step (may told) (c .before .before .meet .ensures))
     ∙ sym (drawn-accepted rules (netOf pick) (filled pick) _ (pick .pick .ensures) (formed (formedOf pick)) (told .before .drawn .given .1))
 
 pub draw-spec : {M : Type 1} → statement M

@@ -5,7 +5,7 @@ use Prim.Native.Nat.{_<_}
 use borrow.Author.Needs.{needs}
 use borrow.Author.Tests.{not-true, not-false}
 use Rattle.schedule.specs.Rules.{inRange, allowed}
-use Rattle.schedule.specs.Outcome.{accepted}
+use Rattle.schedule.specs.Outcome.{stepMade}
 use Rattle.schedule.proofs.Outcomes.{step-unformed, step-outside, step-barred, step-taken}
 use Rattle.rendezvous.specs.Net.{wellFormed}
 use Rattle.rendezvous.specs.Rules.{rules}
@@ -118,7 +118,7 @@ returns-4 c =
     let second = third .before .before .before .before .before .before in
     let first = second .before .before .before in
     let a = first .before .before .args in
-    ap (accepted (a .step)) (made-is (a .t1) (a .step) (rw (ranged second) (guarded third)) (c .before .before .meet .ensures))
+    ap (stepMade (a .step)) (made-is (a .t1) (a .step) (rw (ranged second) (guarded third)) (c .before .before .meet .ensures))
     ∙ sym (step-taken rules (a .t1) (a .step) (formed first) (ranged second) (guarded third))
 
 pub step-spec : {M : Type 1} → statement M

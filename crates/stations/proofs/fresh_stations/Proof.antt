@@ -3,7 +3,7 @@ use mathlib.Core.Path.{_≡_, refl}
 use Prim.Native.Nat.{_≤_, _<_, _-_}
 use native.Mathlib.Omega.{arith}
 use lib.ListN.{length, take, getD, length-set}
-use Rattle.finite.specs.Below.{tabulate}
+use Rattle.finite.specs.Below.{each, tabulate}
 use Rattle.finite.proofs.Below.{tabulate-more, tabulate-all}
 use Rattle.stations.specs.Stations.{freshStation, freshStations}
 use Rattle.stations.proofs.fresh_stations.Statement.{statement}
@@ -20,7 +20,7 @@ blank-requires : tie.Need-blank-requires Inv-loop μ-loop
 blank-requires c κs = tt
 
 loop-holds : tie.Need-loop-holds Inv-loop μ-loop
-unfolding tabulate
+unfolding tabulate each
 loop-holds c = (omega arith, refl, refl)
 
 cast-at : tie.Need-cast-at Inv-loop μ-loop

@@ -3,7 +3,8 @@ use mathlib.Core.Path.{_≡_, sym, _∙_}
 use mathlib.Core.Bool.{false}
 use borrow.Author.Tests.{not-true, not-false}
 use borrow.Author.Needs.{needs}
-use Rattle.topology.specs.Acceptance.{isStationCount, verdictOf}
+use Rattle.topology.specs.Acceptance.{verdictOf}
+use Rattle.bitset.specs.Set.{isStationCount}
 use Rattle.topology.proofs.accept.Statement.{statement}
 use Rattle.topology.proofs.accept.Tie as tie
 

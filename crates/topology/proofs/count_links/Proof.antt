@@ -8,11 +8,11 @@ use lib.ListN.{getD}
 use borrow.Author.Needs.{needs}
 use borrow.Author.Tests.{lt-ltb}
 use Rattle.finite.proofs.Sums.{indicators-le}
-use Rattle.finite.specs.Sum.{sumTo}
-use Rattle.wave.specs.Graph.{links}
+use Rattle.finite.specs.Sum.{foldTo}
+use Rattle.finite.specs.Links.{links}
 use Rattle.bitset.specs.Set.{member}
 use Rattle.topology.specs.Acceptance.{linked}
-use Rattle.topology.specs.Parts.{countBelow}
+use Rattle.topology.specs.internal.Parts.{countBelow}
 use Rattle.topology.proofs.count_links.Statement.{statement}
 use Rattle.topology.proofs.count_links.Tie as tie
 
@@ -25,11 +25,11 @@ abbrev μ-loop : tie.MeasureT-loop
 -- one station more has its links to the stations below it
 links-more : (k : ℕ) (sets : List ℕ) (i : ℕ) → i < k
     → links (i + 1) (linked k sets) ≡ links i (linked k sets) + countBelow i (getD sets i 0)
-unfolding links sumTo
+unfolding links foldTo
 links-more k sets i l = rw (add-one, lt-ltb i k l)
 
 loop-holds : tie.Need-loop-holds Inv-loop μ-loop
-unfolding links sumTo
+unfolding links foldTo
 loop-holds c = (omega arith, omega arith, refl)
 
 cast-count-below : tie.Need-cast-count-below Inv-loop μ-loop

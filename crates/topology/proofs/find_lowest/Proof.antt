@@ -5,7 +5,7 @@ use Prim.Native.Nat.{_≤_, _-_}
 use native.Mathlib.Omega.{arith}
 use borrow.Author.Needs.{needs}
 use Rattle.topology.specs.Acceptance.{firstFrom, lowest}
-use Rattle.topology.specs.Parts.{breaks}
+use Rattle.topology.specs.internal.Parts.{breaks}
 use Rattle.topology.proofs.Searches.{first-here, first-later, first-end}
 use Rattle.topology.proofs.find_lowest.Statement.{statement}
 use Rattle.topology.proofs.find_lowest.Tie as tie

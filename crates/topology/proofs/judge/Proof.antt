@@ -8,9 +8,10 @@ use lib.ListN.{getD}
 use lib.Dec.{ltb, leb}
 use borrow.Author.Tests.{lt-leb, le-leb, leb-true, not-false}
 use Rattle.finite.proofs.Cases.{and-both}
-use Rattle.topology.specs.Answer.{accepted, unless}
+use Rattle.topology.specs.Answer.{accepted}
+use Rattle.finite.specs.Tests.{unless}
 use Rattle.topology.specs.Acceptance.{faultNumbers, linked, near, namesBeyond, namesItself, namesOneSided, isApart, lowest, overAll, verdictOf}
-use Rattle.topology.specs.Parts.{breaks}
+use Rattle.topology.specs.internal.Parts.{breaks}
 use Rattle.topology.specs.declared.Fault.{Fault}
 use Rattle.topology.specs.declared.Fault.the-variants.{Beyond, Itself, OneWay, Apart}
 use Rattle.topology.specs.declared.Rule.the-variants as rule

@@ -5,8 +5,8 @@ use Prim.Native.Nat.{ℕ, _+_, _≤_, _-_}
 use native.Mathlib.Omega.{arith}
 use borrow.Author.Needs.{needs}
 use Rattle.topology.specs.Acceptance.{linked, near}
-use Rattle.bitset.specs.Set.{setOf}
-use Rattle.topology.specs.Parts.{roundOf}
+use Rattle.bitset.specs.internal.Selected.{setOf}
+use Rattle.topology.specs.internal.Parts.{roundOf}
 use Rattle.topology.proofs.Sets.{round-near, round-zero, rounds-settle}
 use Rattle.topology.proofs.reach.Statement.{statement}
 use Rattle.topology.proofs.reach.Tie as tie

@@ -5,9 +5,10 @@ use Prim.Native.Nat.{ℕ, _+_, _-_, _≤_, _<_, _^_}
 use native.Mathlib.Omega.{arith}
 use lib.ListN.{getD}
 use borrow.Author.Needs.{needs}
-use Rattle.bitset.specs.Set.{bitIf, setOf}
+use Rattle.bitset.specs.Set.{bitIf}
+use Rattle.bitset.specs.internal.Selected.{setOf}
 use Rattle.bitset.proofs.Selected.{set-next}
-use Rattle.topology.specs.Parts.{nearBy}
+use Rattle.topology.specs.internal.Parts.{nearBy}
 use Rattle.topology.proofs.round.Statement.{statement}
 use Rattle.topology.proofs.round.Tie as tie
 

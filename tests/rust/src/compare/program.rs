@@ -7,7 +7,7 @@ use crate::model::text::{output, INPUT_LIMIT};
 use crate::rng::{for_cases, Rng};
 use std::io::{Read, Write};
 use std::path::{Path, PathBuf};
-use std::process::{ChildStdin, Command, Stdio};
+use std::process::{ChildStdin, Command, ExitStatus, Stdio};
 use std::thread;
 use std::time::Duration;
 
@@ -18,6 +18,13 @@ pub struct Program {
     path: PathBuf,
 }
 
+/// What a run leaves on standard output and standard error, and how it ended.
+pub struct Left {
+    pub output: Vec<u8>,
+    pub error: String,
+    pub status: ExitStatus,
+}
+
 impl Program {
     pub fn at(path: impl AsRef<Path>) -> Program {
         let path = path.as_ref().to_path_buf();
@@ -25,23 +32,40 @@ impl Program {
         Program { path }
     }
 
-    /// What the program prints for an input that arrives in pieces.
-    pub fn output(&self, input: &[u8], piece: usize) -> Vec<u8> {
-        let mut child = Command::new(&self.path)
-            .stdin(Stdio::piped())
-            .stdout(Stdio::piped())
-            .spawn()
-            .unwrap_or_else(|error| panic!("{}: {error}", self.path.display()));
-        let (stdin, mut stdout) = (child.stdin.take().unwrap(), child.stdout.take().unwrap());
-        let mut printed = Vec::new();
-        thread::scope(|scope| {
-            scope.spawn(|| deliver(stdin, input, piece));
-            stdout.read_to_end(&mut printed).expect("standard output is read");
-        });
-        let status = child.wait().expect("the program ends");
-        assert!(status.code().is_some(), "a signal ended the program: {status}");
-        printed
+    pub fn command(&self) -> Command {
+        Command::new(&self.path)
     }
+
+    /// The program as a shell starts it, which first does something, and then redirects a stream, as by `>&-`.
+    pub fn under(&self, first: &str, redirection: &str) -> Command {
+        let mut shell = Command::new("sh");
+        shell.args(["-c", &format!("{first} exec \"$0\" {redirection}")]).arg(&self.path);
+        shell
+    }
+
+    /// What the program prints for an input that arrives in pieces; it says nothing on standard error.
+    pub fn output(&self, input: &[u8], piece: usize) -> Vec<u8> {
+        let left = run(&mut self.command(), input, piece);
+        assert!(left.status.code().is_some(), "a signal ended the program: {}", left.status);
+        assert_eq!(left.error, "");
+        left.output
+    }
+}
+
+/// Runs a command on an input that arrives in pieces.
+pub fn run(command: &mut Command, input: &[u8], piece: usize) -> Left {
+    command.stdin(Stdio::piped()).stdout(Stdio::piped()).stderr(Stdio::piped());
+    let mut child = command.spawn().unwrap_or_else(|error| panic!("{command:?}: {error}"));
+    let (stdin, mut stdout) = (child.stdin.take().unwrap(), child.stdout.take().unwrap());
+    let mut stderr = child.stderr.take().unwrap();
+    let (mut output, mut error) = (Vec::new(), String::new());
+    thread::scope(|scope| {
+        scope.spawn(|| deliver(stdin, input, piece));
+        scope.spawn(|| stderr.read_to_string(&mut error).expect("standard error is read"));
+        stdout.read_to_end(&mut output).expect("standard output is read");
+    });
+    let status = child.wait().expect("the program ends");
+    Left { output, error, status }
 }
 
 /// Writes the input piece by piece. A program that has read enough to refuse may close its end.

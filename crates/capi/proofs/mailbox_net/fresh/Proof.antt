@@ -12,15 +12,15 @@ use Rattle.linemap.specs.declared.Map.{Map}
 use Rattle.linemap.specs.Openings.{Opening, openingBy}
 use Rattle.mailbox.specs.Net.{Net}
 use Rattle.mailbox.specs.Net.{netOf}
-use Rattle.mailbox.specs.Opening.{freshOn, unopened, opening}
+use Rattle.mailbox.specs.Opening.{freshOn, emptyLine, mailboxOpening}
 use Rattle.capi.specs.Answers.{called}
 use Rattle.capi.proofs.Calls.{refused-leaves, accepted-replaces}
 use Rattle.capi.proofs.mailbox_net.fresh.Statement.{statement}
 use Rattle.capi.proofs.mailbox_net.fresh.Tie as tie
 
-refused-opens-none : (m : Map) (boxes : List ℕ) → isAccepted (opening m boxes .numbers) ≡ false → opening m boxes .net .boxes ≡ boxes
+refused-opens-none : (m : Map) (boxes : List ℕ) → isAccepted (mailboxOpening m boxes .numbers) ≡ false → mailboxOpening m boxes .net .boxes ≡ boxes
 unfolding openingBy
-refused-opens-none m boxes refused = ap (λ (b : Bool). cond {A = Net} b (freshOn m) (netOf unopened boxes) .boxes) refused
+refused-opens-none m boxes refused = ap (λ (b : Bool). cond {A = Net} b (freshOn m) (netOf emptyLine boxes) .boxes) refused
 
 fresh-requires : tie.Need-fresh-requires
 fresh-requires c κs = search needs
@@ -36,9 +36,9 @@ returns c =
     let why = c .before .before .verdict .given in
     let opened = c .before .before .before .before .fresh .ensures in
     let start = c .before .before .before .before .before .before .args in
-    let numbers : faultNumbers (why .0 .0) ≡ opening (start .map) (start .boxes .now) .numbers =
+    let numbers : faultNumbers (why .0 .0) ≡ mailboxOpening (start .map) (start .boxes .now) .numbers =
     sym (ap verdictNumbers (why .1)) ∙ ap (λ (o : Opening Net). o .numbers) opened in
-    let refused : isAccepted (opening (start .map) (start .boxes .now) .numbers) ≡ false = sym (ap isAccepted numbers) ∙ fault-refuses (why .0 .0) in
+    let refused : isAccepted (mailboxOpening (start .map) (start .boxes .now) .numbers) ≡ false = sym (ap isAccepted numbers) ∙ fault-refuses (why .0 .0) in
     ap (λ (boxes : List ℕ). called (c .fault .result) (netOf (start .before) boxes))
     (ap (λ (o : Opening Net). o .net .boxes) opened ∙ refused-opens-none (start .map) (start .boxes .now) refused)
     ∙ refused-leaves _ _ _ (faultNumbers (why .0 .0)) _ numbers (fault-refuses (why .0 .0)) (c .fault .ensures)

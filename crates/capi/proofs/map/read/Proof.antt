@@ -1,7 +1,7 @@
 -- `capi::map::read` meets its contract: a refused reading leaves the lent map, an accepted one what it found. Assumes nothing.
 use mathlib.Core.Path.{sym, ap, _∙_}
 use borrow.Author.Needs.{needs}
-use Rattle.linemap.specs.Reading.{Outcome, readNumbers, readFaultNumbers}
+use Rattle.linemap.specs.Reading.{ReadOutcome, readNumbers, readFaultNumbers}
 use Rattle.linemap.proofs.Answers.{read-fault-refuses}
 use Rattle.capi.proofs.Calls.{refused-leaves, accepted-replaces}
 use Rattle.capi.proofs.map.read.Statement.{statement}
@@ -20,7 +20,7 @@ returns : tie.Need-returns
 returns c =
     let why = c .before .before .answer .given in
     refused-leaves _ _ _ (readFaultNumbers (why .0 .0)) _
-    (sym (ap readNumbers (why .1)) ∙ ap (λ (o : Outcome). o .numbers) (c .before .before .before .before .read .ensures))
+    (sym (ap readNumbers (why .1)) ∙ ap (λ (o : ReadOutcome). o .numbers) (c .before .before .before .before .read .ensures))
     (read-fault-refuses (why .0 .0)) (c .read-fault .ensures)
 
 enum-told : tie.Need-enum-told
@@ -29,7 +29,7 @@ enum-told c = search needs
 returns-2 : tie.Need-returns-2
 returns-2 c =
     let found = c .before .before .before .read .ensures in
-    accepted-replaces _ _ _ _ (sym (ap readNumbers (c .before .enum-told .given .1)) ∙ ap (λ (o : Outcome). o .numbers) found) (ap (λ (o : Outcome). o .map) found)
+    accepted-replaces _ _ _ _ (sym (ap readNumbers (c .before .enum-told .given .1)) ∙ ap (λ (o : ReadOutcome). o .numbers) found) (ap (λ (o : ReadOutcome). o .map) found)
 
 pub read-spec : {M : Type 1} → statement M
 read-spec =

@@ -5,7 +5,8 @@ use Rattle.lent.proofs.Data.{number}
 use Rattle.lent.proofs.Law.{proved}
 use Rattle.schedule.specs.Draws.{stepOn}
 use Rattle.rendezvous.specs.Rules.{rules}
-use Rattle.capi.specs.Steps.{stepAt, stepCall}
+use Rattle.schedule.specs.Listing as listing
+use Rattle.capi.specs.Steps.{stepCall}
 use Rattle.capi.proofs.Lent.{on-net}
 use Rattle.capi.proofs.rendezvous_net.step.Symbol as by-value
 use Rattle.capi.proofs.rendezvous_net.step.Met as by-value-met
@@ -16,5 +17,5 @@ use Rattle.capi.proofs.rendezvous_net.tally_rendezvous_step.Code as cod
 pub tally-rendezvous-step-spec : {M : Type 1} → statement M
 unfolding code.routine
 tally-rendezvous-step-spec 𝓤 H 𝓜 𝓖 𝓡 =
-    proved 𝓤 H 𝓜 𝓖 𝓡 (on-net (number w8 ∷ number w8 ∷ number w8 ∷ []) (λ κs a n. stepCall (stepOn rules n (stepAt (a .0) (a .1 .0) (a .1 .1 .0))))) code.env key.name by-value.name by-value.routine
+    proved 𝓤 H 𝓜 𝓖 𝓡 (on-net (number w8 ∷ number w8 ∷ number w8 ∷ []) (λ κs a n. stepCall (stepOn rules n (listing.step (a .0) (a .1 .0) (a .1 .1 .0))))) code.env key.name by-value.name by-value.routine
     (code.unfolded 𝓤 H 𝓜 𝓡) code.calls-capi·rendezvous-net·step (by-value-met.met 𝓤 H 𝓜 𝓖 𝓡)

@@ -5,7 +5,7 @@ use Rattle.topology.specs.Answer.{isAccepted}
 use Rattle.topology.specs.Acceptance.{faultNumbers, verdictNumbers}
 use Rattle.topology.proofs.Answers.{fault-refuses}
 use Rattle.linemap.specs.Maps.{acceptance}
-use Rattle.linemap.specs.Reading.{outcomeOf}
+use Rattle.linemap.specs.Reading.{readOutcomeOf}
 use Rattle.linemap.proofs.reading.judge.Statement.{statement}
 use Rattle.linemap.proofs.reading.judge.Tie as tie
 
@@ -23,7 +23,7 @@ returns c =
     let given = c .before .before .verdict .given in
     let told : faultNumbers (given .0 .0) ≡ acceptance (c .before .before .before .before .before .args .m) =
     ap verdictNumbers (sym (given .1)) ∙ c .before .before .before .before .accept .ensures in
-    ap outcomeOf (c .unread .ensures) ∙ rw (ap isAccepted (sym told) ∙ fault-refuses (given .0 .0), ← told)
+    ap readOutcomeOf (c .unread .ensures) ∙ rw (ap isAccepted (sym told) ∙ fault-refuses (given .0 .0), ← told)
 
 enum-told : tie.Need-enum-told
 enum-told c = search needs

@@ -5,7 +5,8 @@ use Prim.Native.Nat.{_*_, _-_, _≤_}
 use native.Mathlib.Omega.{arith}
 use lib.ListN.{length}
 use borrow.Author.Needs.{needs}
-use Rattle.linemap.specs.Numbers.{each, put}
+use Rattle.linemap.specs.internal.Stages.{put}
+use Rattle.finite.specs.Below.{each}
 use Rattle.linemap.specs.Stored.{rowLength, rowBytes}
 use Rattle.linemap.proofs.Each.{length-each, each-more}
 use Rattle.linemap.proofs.Put.{lay, put-none}

@@ -4,7 +4,7 @@ use Prim.Native.Nat.{_+_, _-_, _≤_}
 use native.Mathlib.Omega.{arith}
 use borrow.Author.Needs.{needs}
 use Rattle.schedule.proofs.Counting.{Stored, Counted, stored-none, stored-four, counted-none, counted-four, counted-all}
-use Rattle.mailbox.specs.Receivers.{receiversOf}
+use Rattle.mailbox.specs.internal.Receivers.{receiversOf}
 use Rattle.mailbox.proofs.listing.fill.Statement.{statement}
 use Rattle.mailbox.proofs.listing.fill.Tie as tie
 

@@ -1,5 +1,5 @@
 -- `mailbox::listing::find_deliverable` meets its contract: call by call. Assumes nothing.
-use Rattle.mailbox.specs.Receivers.{deliverable}
+use Rattle.mailbox.specs.internal.Receivers.{deliverable}
 use borrow.Author.Needs.{needs}
 use Rattle.mailbox.proofs.listing.find_deliverable.Statement.{statement}
 use Rattle.mailbox.proofs.listing.find_deliverable.Tie as tie

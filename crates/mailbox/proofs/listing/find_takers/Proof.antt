@@ -3,10 +3,10 @@ use mathlib.Core.Path.{_≡_, refl, ap₂}
 use Prim.Native.Nat.{ℕ, _+_, _-_, _≤_, _<_, _^_}
 use native.Mathlib.Omega.{arith}
 use borrow.Author.Needs.{needs}
-use Rattle.bitset.specs.Set.{setOf}
+use Rattle.bitset.specs.internal.Selected.{setOf}
 use Rattle.bitset.proofs.Selected.{set-next}
 use Rattle.stations.specs.Stations.{stationAt}
-use Rattle.mailbox.specs.Receivers.{takesStart, takesAnswer, takersOf}
+use Rattle.mailbox.specs.internal.Receivers.{takesStart, takesAnswer, takersOf}
 use Rattle.mailbox.proofs.listing.find_takers.Statement.{statement}
 use Rattle.mailbox.proofs.listing.find_takers.Tie as tie
 

@@ -6,9 +6,9 @@ use native.Mathlib.Omega.{arith}
 use lib.Dec.{eqb}
 use borrow.Author.Tests.{eqb-true}
 use Rattle.finite.proofs.Cases.{and-both}
-use Rattle.schedule.specs.Rows.{others}
+use Rattle.schedule.specs.internal.Rows.{others}
 use Rattle.schedule.proofs.Resizing.{hold-those, others-or-two}
-use Rattle.mailbox.specs.Receivers.{HoldReceivers}
+use Rattle.mailbox.specs.internal.Receivers.{HoldReceivers}
 use Rattle.aggregate.specs.Aggregate.{rootOf}
 use Rattle.mailbox.proofs.Following.{held-anew}
 use Rattle.mailbox.proofs.listing.follow.Statement.{statement}

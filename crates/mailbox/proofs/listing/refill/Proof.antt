@@ -3,7 +3,7 @@ use mathlib.Core.Path.{_≡_}
 use Prim.Native.Nat.{_+_, _-_, _*_}
 use native.Mathlib.Omega.{arith}
 use borrow.Author.Needs.{needs}
-use Rattle.mailbox.specs.Receivers.{receiversOf}
+use Rattle.mailbox.specs.internal.Receivers.{receiversOf}
 use Rattle.mailbox.proofs.listing.refill.Statement.{statement}
 use Rattle.mailbox.proofs.listing.refill.Tie as tie
 

@@ -1,6 +1,6 @@
 -- `mailbox::listing::retake` meets its contract: call by call. Assumes nothing.
 use borrow.Author.Needs.{needs}
-use Rattle.mailbox.specs.Receivers.{retaken}
+use Rattle.mailbox.specs.internal.Receivers.{retaken}
 use Rattle.mailbox.proofs.listing.retake.Statement.{statement}
 use Rattle.mailbox.proofs.listing.retake.Tie as tie
 

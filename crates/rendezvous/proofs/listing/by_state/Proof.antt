@@ -4,12 +4,12 @@ use Prim.Native.Nat.{ℕ, _+_, _-_, _≤_, _<_, _^_}
 use native.Mathlib.Omega.{arith}
 use lib.Dec.{eqb}
 use borrow.Author.Needs.{needs}
-use Rattle.bitset.specs.Set.{setOf}
+use Rattle.bitset.specs.internal.Selected.{setOf}
 use Rattle.bitset.proofs.Selected.{set-next}
 use Rattle.station.specs.Events as events
 use Rattle.rendezvous.specs.declared.Net.{Net}
 use Rattle.rendezvous.specs.Net.{station}
-use Rattle.rendezvous.specs.Receivers.{inState}
+use Rattle.rendezvous.specs.internal.Receivers.{inState}
 use Rattle.rendezvous.proofs.listing.by_state.Statement.{statement}
 use Rattle.rendezvous.proofs.listing.by_state.Tie as tie
 

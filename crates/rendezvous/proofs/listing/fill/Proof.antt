@@ -3,7 +3,7 @@ use mathlib.Core.Path.{_≡_}
 use Prim.Native.Nat.{_-_, _≤_}
 use native.Mathlib.Omega.{arith}
 use borrow.Author.Needs.{needs}
-use Rattle.rendezvous.specs.Receivers.{keptAt}
+use Rattle.rendezvous.specs.internal.Receivers.{keptAt}
 use Rattle.rendezvous.proofs.Filling.{Filling, filling-none, filling-next, filling-all}
 use Rattle.rendezvous.proofs.listing.fill.Statement.{statement}
 use Rattle.rendezvous.proofs.listing.fill.Tie as tie

@@ -1,7 +1,7 @@
 -- `rendezvous::listing::find_sends` meets its contract: its calls' own; a station that is not active sends nothing. Assumes nothing.
 use borrow.Author.Tests.{eq-eqb}
 use borrow.Author.Needs.{needs}
-use Rattle.rendezvous.specs.Receivers.{startable, answerable}
+use Rattle.rendezvous.specs.internal.Receivers.{startable, answerable}
 use Rattle.rendezvous.proofs.RowSets.{idle-sends}
 use Rattle.rendezvous.proofs.listing.find_sends.Statement.{statement}
 use Rattle.rendezvous.proofs.listing.find_sends.Tie as tie

@@ -9,9 +9,9 @@ use borrow.Author.Needs.{needs}
 use borrow.Author.Tests.{eqb-true}
 use Rattle.finite.proofs.Cases.{and-both, by-sum}
 use Rattle.bitset.specs.Set.{union}
-use Rattle.schedule.specs.Rows.{others}
+use Rattle.schedule.specs.internal.Rows.{others}
 use Rattle.schedule.proofs.Resizing.{others-or-two}
-use Rattle.rendezvous.specs.Receivers.{keptAt, HoldSome}
+use Rattle.rendezvous.specs.internal.Receivers.{keptAt, HoldSome}
 use Rattle.rendezvous.proofs.Following.{held-anew, hold-all, Passed, rows-stand, passed-none, passed-missing, passed-anew}
 use Rattle.rendezvous.proofs.listing.follow.Statement.{statement}
 use Rattle.rendezvous.proofs.listing.follow.Tie as tie

@@ -4,7 +4,7 @@ use Prim.Native.Nat.{ℕ, _+_, _-_, _≤_}
 use native.Mathlib.Omega.{arith}
 use lib.ListN.{length-replicate}
 use borrow.Author.Needs.{needs}
-use Rattle.rendezvous.specs.Receivers.{AreSends}
+use Rattle.rendezvous.specs.internal.Receivers.{AreSends}
 use Rattle.rendezvous.proofs.Kept.{kept-none, kept-next}
 use Rattle.rendezvous.proofs.listing.keep_all.Statement.{statement}
 use Rattle.rendezvous.proofs.listing.keep_all.Tie as tie

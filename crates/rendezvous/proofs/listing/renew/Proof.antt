@@ -2,7 +2,7 @@
 use mathlib.Core.Path.{_∙_, ap}
 use borrow.Author.Needs.{needs}
 use Rattle.rendezvous.specs.declared.listing.Sends.{Sends}
-use Rattle.rendezvous.specs.Receivers.{withSends}
+use Rattle.rendezvous.specs.internal.Receivers.{withSends}
 use Rattle.rendezvous.proofs.listing.renew.Statement.{statement}
 use Rattle.rendezvous.proofs.listing.renew.Tie as tie
 

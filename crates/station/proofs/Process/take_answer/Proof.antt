@@ -8,7 +8,7 @@ use Rattle.aggregate.specs.declared.Aggregate.{Aggregate}
 use Rattle.aggregate.specs.Aggregate.{bounded, joinable}
 use Rattle.station.specs.declared.Process.{Process}
 use Rattle.station.specs.Events.{active, answerTaken}
-use Rattle.station.specs.Form.{configOf, wellFormedProcess}
+use Rattle.station.specs.Form.{processConfig, wellFormedProcess}
 use Rattle.station.specs.Process.{done, after, decide, takeAnswer}
 use Rattle.station.proofs.Formed.{facts}
 use Rattle.station.proofs.Outcomes.{decide-agree}
@@ -18,11 +18,11 @@ use Rattle.station.proofs.Process.take_answer.Tie as tie
 
 -- the join's own test is always passed
 tested : (v : Aggregate) (p : Process)
-    → decide (wellFormedProcess p) (bounded (configOf p) v) (eqb (p .station .state) active) p
-    (done (after p (cond (joinable (configOf p) (p .station .held) v) (answerTaken (configOf p) v (p .station)) (p .station))))
+    → decide (wellFormedProcess p) (bounded (processConfig p) v) (eqb (p .station .state) active) p
+    (done (after p (cond (joinable (processConfig p) (p .station .held) v) (answerTaken (processConfig p) v (p .station)) (p .station))))
     ≡ takeAnswer v p
 unfolding takeAnswer
-tested v p = decide-agree _ _ _ p _ _ (λ f r. rw (facts (configOf p) (p .own) (p .station) (station-formed p f) .held-bounded, r))
+tested v p = decide-agree _ _ _ p _ _ (λ f r. rw (facts (processConfig p) (p .own) (p .station) (station-formed p f) .held-bounded, r))
 
 config-requires : tie.Need-config-requires
 config-requires c κs = search needs

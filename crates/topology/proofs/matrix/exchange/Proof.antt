@@ -4,7 +4,7 @@ use Prim.Native.Nat.{ℕ, _*_, _-_, _≤_, _<_}
 use native.Mathlib.Omega.{arith}
 use lib.ListN.{length, getD}
 use borrow.Author.Needs.{needs}
-use Rattle.topology.specs.Matrix.{exchangedRow}
+use Rattle.topology.specs.internal.Matrix.{exchangedRow}
 use Rattle.topology.proofs.Transposition.{two-more}
 use Rattle.topology.proofs.matrix.exchange.Statement.{statement}
 use Rattle.topology.proofs.matrix.exchange.Tie as tie

@@ -1,0 +1,127 @@
+-- What else is claimed, once for both kinds of net. Single steps accept what is allowed, so the list that draws pick from is that of the steps
+-- accepted, and rest is that none is; after the report a net is at rest, where no call moves it. Assumes nothing.
+use mathlib.Core.Path.{_≡_, sym, ap, _∙_, subst}
+use mathlib.Core.Bool.{true, cond}
+use mathlib.Core.List.{List, [], _∷_, map, List·Memᴰ, append-nil}
+use Prim.Native.Nat.{ℕ, _+_, _*_, _%_, min}
+use native.Mathlib.Omega.{arith}
+use lib.Dec.{eqb}
+use lib.ListN.{length, getD, length-map}
+use borrow.Author.Tests.{eq-eqb}
+use Rattle.refusal.specs.declared.Refusal.the-variants.{NothingAllowed}
+use Rattle.wave.specs.internal.Claim.{AtRest}
+use Rattle.linemap.specs.Maps.{linkCount}
+use Rattle.linemap.specs.Reading.{readAs, reading}
+use Rattle.linemap.proofs.Accepted.{read-accepted}
+use Rattle.linemap.proofs.Fits.{read-fits}
+use Rattle.schedule.specs.declared.Step.{Step}
+use Rattle.schedule.specs.Rules.{Rules}
+use Rattle.schedule.specs.Listing.{step}
+use Rattle.schedule.specs.Outcome.{stepRefused}
+use Rattle.schedule.specs.Draws.{stepOn, runMade, runNet, runOn}
+use Rattle.schedule.specs.Calls.{run, callMade, callNet, callsMade, callsNet}
+use Rattle.schedule.specs.internal.Labels.{labelOf}
+use Rattle.schedule.proofs.Listing.{Allowed, listed-complete}
+use Rattle.schedule.proofs.Made.{stopped-net}
+use Rattle.schedule.proofs.Runs.{run-steps, run-is-draws}
+use Rattle.schedule.proofs.Resting.{accepted-allowed, accepted-listed, draw-entry, rest-refuses, rest-step, rest-draw, rest-run, rest-calls, run-formed, run-rests}
+use Rattle.order.proofs.RendezvousOrder.{rendezvous-order, rendezvous-conserved}
+use Rattle.order.proofs.MailboxOrder.{mailbox-order}
+use Rattle.demand.specs.Kinds.{Kind, meeting, mailing, made, left, reports}
+use Rattle.demand.specs.Demand.{OnEveryMap}
+use Rattle.demand.specs.Further.{DrawsPick, RestIsRest, Final, RunIsDraws, FreshRun, OfKind, Conserved, Read, Further}
+use Rattle.demand.proofs.Counted.{reports-counted}
+use Rattle.demand.proofs.Demand.{Orderly}
+
+module _ {Net : Type 0} (R : Rules Net) (net : Net) where
+  draws-pick : R .wellFormed net ≡ true → DrawsPick R net
+  draws-pick formed =
+      let same = sym (accepted-listed R net formed) in
+      record {
+        draws = λ d.
+            draw-entry R net formed d
+            ∙ ap
+            (λ (l : List Step). cond (eqb (length l) 0) (stepRefused NothingAllowed net) (stepOn R net (getD l (d % length l) (step 0 0 0))))
+            same;
+        all-listed = λ s e.
+            subst (List·Memᴰ s) same
+            (listed-complete R net s (sym (accepted-allowed R net formed s) ∙ eq-eqb (stepOn R net s .number) 0 e));
+      }
+
+  rest-is-rest : (draws : List ℕ) → RestIsRest R net draws
+  rest-is-rest draws e =
+      let formed = run-formed R net draws e in
+      let rests = run-rests R net draws formed in
+      let refuses = rest-refuses R (runOn R net draws .net) formed in
+      (λ r. refuses .0 (rests .0 r), λ none. rests .1 (refuses .1 none))
+
+  runs-as-draws : (draws : List ℕ) → RunIsDraws R net draws
+  unfolding callMade callNet runOn
+  runs-as-draws draws =
+      let same = run-is-draws R net draws in
+      record { made-as = same .0; left-as = stopped-net R (runNet R net draws) (length (runMade R net draws)) ∙ same .1; counted = run-steps R net draws }
+
+  rest-final : R .wellFormed net ≡ true → AtRest (Allowed R) net → Final R net
+  rest-final formed rest =
+      record {
+        no-step = rest-step R net formed rest;
+        no-draw = rest-draw R net formed rest;
+        no-run = rest-run R net formed rest;
+        no-call = rest-calls R net formed rest;
+      }
+
+module _ (K : Kind) (orderly : Orderly K) where
+  final : OnEveryMap (λ m calls. reports K m calls ≡ 1 → Final (K .rules) (left K m calls))
+  final m fits good calls e =
+      let order = orderly m fits good .order in
+      rest-final (K .rules) (left K m calls) (order .formed calls)
+      (order .demand calls .report-rest .0 (reports-counted K (made K m calls) ∙ e))
+
+  fresh-run : OnEveryMap (FreshRun K)
+  unfolding callsMade callsNet callMade callNet
+  fresh-run m fits good draws =
+      let R = K .rules in
+      let fresh = K .fresh m in
+      let calls = run draws ∷ [] in
+      let order = orderly m fits good .order in
+      let d = order .demand calls in
+      let rests = run-rests R fresh draws (order .formed calls) in
+      let many : length (map (labelOf R) (callsMade R fresh calls)) ≡ min (length draws) (2 * linkCount m + 1) =
+      length-map (callsMade R fresh calls) (labelOf R) ∙ ap length (append-nil (runMade R fresh draws)) ∙ sym (run-steps R fresh draws)
+      ∙ order .run-formula draws in
+      record {
+        steps = order .run-formula draws;
+        rest = (
+          λ r. let full = d .report-full .0 (d .report-rest .1 (rests .0 r)) in omega arith,
+          λ enough. rests .1 (d .report-rest .0 (d .report-full .1 (omega arith))),
+        );
+      }
+
+  of-kind : OfKind K
+  of-kind =
+      record {
+        draws-pick = draws-pick (K .rules);
+        rest-is-rest = rest-is-rest (K .rules);
+        run-is-draws = runs-as-draws (K .rules);
+        formed = λ m fits good calls. orderly m fits good .order .formed calls;
+        final = final;
+        fresh-run = fresh-run;
+      }
+
+conserved : Conserved
+conserved m fits good calls none = rendezvous-conserved m fits good calls (reports-counted meeting (made meeting m calls) ∙ none)
+
+read : Read
+read s byte ok =
+    let m = reading s .map in
+    let is : reading s ≡ readAs m = ap (λ (n : List ℕ). record { numbers = n; map = m }) ok in
+    (read-fits s m byte is, read-accepted s m is)
+
+pub further : Further
+further =
+    record {
+      stations-that-meet = of-kind meeting rendezvous-order;
+      stations-with-mail = of-kind mailing mailbox-order;
+      conserved = conserved;
+      read = read;
+    }

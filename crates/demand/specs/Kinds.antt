@@ -1,0 +1,72 @@
+-- What demand 3 speaks of (document 01, "Lists of calls"): a kind of net, and of a list of calls the steps made, the reports and messages
+-- among them, and the net left. Said by what the calls answer; nothing of how it is proved.
+use mathlib.Core.Bool.{Bool, not, _&&_}
+use mathlib.Core.List.{List}
+use Prim.Native.Nat.{ℕ}
+use lib.Dec.{eqb}
+use lib.ListN.{length}
+use Rattle.aggregate.specs.Aggregate.{rootOf, sumOf}
+use Rattle.station.specs.declared.Station.{Station}
+use Rattle.linemap.specs.declared.Map.{Map}
+use Rattle.linemap.specs.Maps.{configOf}
+use Rattle.schedule.specs.declared.Step.{Step}
+use Rattle.schedule.specs.Rules.{Rules}
+use Rattle.schedule.specs.Listing.{select}
+use Rattle.schedule.specs.Calls.{Call, callsMade, callsNet}
+use Rattle.rendezvous.specs.declared.Net as rendezvous
+use Rattle.rendezvous.specs.Net as rendezvous-net
+use Rattle.rendezvous.specs.Rules as rendezvous-rules
+use Rattle.rendezvous.specs.Opening as rendezvous-opening
+use Rattle.mailbox.specs.Net as mailbox-net
+use Rattle.mailbox.specs.Rules as mailbox-rules
+use Rattle.mailbox.specs.Opening as mailbox-opening
+
+-- a kind of net: its rules, the fresh net of a map, and the stations of a net
+pub record Kind : Type 1 where
+  pub Net : Type 0
+  pub rules : Rules Net
+  pub fresh : Map → Net
+  pub station : Net → ℕ → Station
+
+-- "Stations that meet"
+abbrev pub meeting : Kind
+meeting =
+    record { Net = rendezvous.Net; rules = rendezvous-rules.rules; fresh = rendezvous-opening.freshOn; station = rendezvous-net.station }
+
+-- "Stations with mail"
+abbrev pub mailing : Kind
+mailing = record { Net = mailbox-net.Net; rules = mailbox-rules.rules; fresh = mailbox-opening.freshOn; station = mailbox-net.station }
+
+-- how many steps of a list pass a test
+abbrev pub howMany : (Step → Bool) → List Step → ℕ
+howMany test steps = length (select test steps)
+
+module _ (K : Kind) where
+  -- a report, by its kind
+  abbrev pub isReport : Step → Bool
+  isReport s = eqb (s .kind) (K .rules .reports)
+
+  -- "Every step made but a report is one message, carried by the link of its two stations from sender to receiver"
+  abbrev pub isMessage : ℕ → ℕ → Step → Bool
+  isMessage i j s = not (isReport s) && eqb i (s .sender) && eqb j (s .receiver)
+
+  -- "the desk's sum"
+  abbrev pub deskSum : Map → K .Net → ℕ
+  deskSum m net = sumOf (K .station net (rootOf (configOf m)) .held)
+
+  module _ (m : Map) (calls : List Call) where
+    -- "The steps made, in order", by a list that "starts from the fresh net"
+    abbrev pub made : List Step
+    made = callsMade (K .rules) (K .fresh m) calls
+
+    -- "the net that the list leaves"
+    abbrev pub left : K .Net
+    left = callsNet (K .rules) (K .fresh m) calls
+
+    -- how often the desk has reported
+    abbrev pub reports : ℕ
+    reports = howMany isReport made
+
+    -- how many messages have gone from i to j
+    abbrev pub messages : ℕ → ℕ → ℕ
+    messages i j = howMany (isMessage i j) made

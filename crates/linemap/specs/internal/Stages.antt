@@ -1,0 +1,52 @@
+-- What the parts of the reader and the writer say.
+use mathlib.Core.List.{List}
+use Prim.Native.Nat.{ℕ, _+_, _*_, _-_}
+use lib.ListN.{length}
+use lib.Seq.{sets}
+use lib.Dec.{leb, eqb}
+use Rattle.finite.specs.Tests.{unless}
+use Rattle.bitset.specs.Set.{isStationCount}
+use Rattle.topology.specs.declared.Fault.the-variants.{Stations}
+use Rattle.linemap.specs.Numbers.{number, sumWords}
+use Rattle.linemap.specs.Stored.{rowLength, trailerLength, storedLength, wordCount}
+use Rattle.linemap.specs.Reading.{ReadOutcome, emptyMap, readRefused, stationsIn, rowLengthIn, distanceIn, lotIn, mapAt, judged}
+use Rattle.linemap.specs.declared.MapRead.{MapRead}
+use Rattle.linemap.specs.declared.ReadAnswer.{ReadAnswer}
+use Rattle.linemap.specs.declared.ReadFault.the-variants.{RowLength, Distance, Rows, CheckWord, Unfit}
+use Rattle.linemap.specs.declared.reading.TrailerRead.{TrailerRead}
+use Rattle.linemap.specs.declared.reading.RowRead.{RowRead}
+use Rattle.linemap.specs.declared.ReadAnswer.the-variants as answer
+use Rattle.linemap.specs.declared.reading.TrailerRead.the-variants as trailer
+use Rattle.linemap.specs.declared.reading.RowRead.the-variants as row
+
+-- the list l with vs stored from `at` on
+unfoldable pub put : List ℕ → ℕ → List ℕ → List ℕ
+put l at vs = sets l at vs
+
+-- the trailer's fields, unless there are fewer bytes than it has
+unfoldable pub trailerOf : List ℕ → TrailerRead
+trailerOf s =
+    unless (leb trailerLength (length s)) trailer.Short (trailer.Fields (stationsIn s) (rowLengthIn s) (distanceIn s) (lotIn s))
+
+-- the rules 2 to 4 on k, the row length and the distance
+unfoldable pub trailerAnswer : ℕ → ℕ → ℕ → ReadAnswer
+trailerAnswer k row distance =
+    unless (eqb row rowLength) (answer.Refused RowLength)
+    (unless (isStationCount k) (answer.Refused (Unfit Stations))
+    (unless (eqb distance (rowLength * k)) (answer.Refused Distance) answer.Accepted))
+
+-- the row that starts so many bytes before the end
+unfoldable pub rowOf : List ℕ → ℕ → RowRead
+rowOf s back =
+    unless (leb back (length s)) row.Outside (row.Row (number s (length s - back) 4) (number s (length s - back + 4) 8))
+
+-- the rules 5 to 10 on the rows of k stations
+unfoldable pub rowsOutcome : List ℕ → ℕ → ℕ → ReadOutcome
+rowsOutcome s k lot =
+    unless (leb (storedLength k) (length s)) (readRefused Rows)
+    (unless (eqb (sumWords s (length s - storedLength k) (wordCount k)) 0) (readRefused CheckWord)
+    (judged (mapAt s k lot (length s - storedLength k))))
+
+-- an answer with the empty map
+abbrev pub unreadBy : ReadAnswer → MapRead
+unreadBy a = record { answer = a; map = emptyMap }
