@@ -27,7 +27,7 @@ enum { TALLY_STATIONS = 64 };
 
 /* Bytes of stack that no call takes more than, its arguments included: events of a station, calls on maps, on stations that meet, and on
    stations with mail. */
-enum { TALLY_PROCESS_STACK = 1024, TALLY_MAP_STACK = 4096, TALLY_RENDEZVOUS_STACK = 8192, TALLY_MAILBOX_STACK = 12288 };
+enum { TALLY_PROCESS_STACK = 1024, TALLY_MAP_STACK = 4096, TALLY_RENDEZVOUS_STACK = 12288, TALLY_MAILBOX_STACK = 12288 };
 
 /* ---- one station --------------------------------------------------------------------------------------------------------------------
 

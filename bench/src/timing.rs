@@ -53,14 +53,17 @@ impl<'a, L: Clone, F: FnMut(&mut L)> Timed<'a, L, F> {
         timed
     }
 
-    /// The mean time of calls on copies of what is lent; copying is left out.
+    /// The mean time of calls on copies of what is lent; copying is left out. The clock of a virtual machine may step back: no time at all is
+    /// taken for no reading.
     fn batch(&mut self, count: usize) -> f64 {
         let overhead = *OVERHEAD;
         let mut copies = vec![self.lent.clone(); count];
         let start = now();
         copies.iter_mut().for_each(&mut self.call);
         let mean = (now() - start - overhead) / count as f64;
-        self.least = self.least.min(mean);
+        if mean > 0.0 {
+            self.least = self.least.min(mean);
+        }
         mean
     }
 

@@ -17,10 +17,11 @@ pub fn is_station_count(k: u64) -> bool
 pub fn size(set: u64) -> u8
     ensures { λ r. ⌜ r ≡ Set.size set ⌝ }
 {
+    let counts = table::COUNTS;
     let mut sum: u8 = 0;
     let mut at: u8 = 0;
     while at < 64 {
-        sum += table::byte_size(((set >> at) % 256) as u8);
+        sum += counts[((set >> at) % 256) as usize];
         at += 8;
     }
     sum

@@ -1,9 +1,7 @@
 // The bit counts of a byte: the 256-entry constant table of document 01, "One station".
-ghost use mathlib.Core.Path.{_≡_};
-ghost use Rattle.bitset.specs.Set.{membersBelow};
 
 // How many bits each byte has.
-const COUNTS: [u8; 256] = [
+pub(crate) const COUNTS: [u8; 256] = [
     0,
     1,
     1,
@@ -261,10 +259,3 @@ const COUNTS: [u8; 256] = [
     7,
     8,
 ];
-
-// The size of a set of stations 0 to 7.
-pub fn byte_size(byte: u8) -> u8
-    ensures { λ r. ⌜ r ≡ membersBelow 8 byte ⌝ }
-{
-    COUNTS[byte as usize]
-}

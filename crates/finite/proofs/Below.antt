@@ -1,6 +1,6 @@
 -- Laws of tests and tables below a bound: what each says of one number, and how a loop goes on from i to i + 1. Assumes nothing.
 use mathlib.Core.Path.{_≡_, refl, sym, ap, ap₂, _∙_}
-use mathlib.Core.Bool.{Bool, true, _&&_}
+use mathlib.Core.Bool.{Bool, true, false, _&&_}
 use mathlib.Core.List.{List, [], _∷_, _++_}
 use Prim.Native.Nat.{ℕ, zero, suc, _+_, _<_}
 use native.Mathlib.Nat.{not-suc-le-zero, le-of-eq}
@@ -24,12 +24,16 @@ module _ (p : ℕ → Bool) where
       let b = and-both (allBelow n p) (p n) h in
       by-eq i n (λ q. ap p q ∙ b .1) (λ q. all-below-at n i (b .0) (omega arith))
 
+  -- one number that fails decides
+  pub all-below-fails : (n i : ℕ) → i < n → p i ≡ false → allBelow n p ≡ false
+  all-below-fails n i l f = by-bool (allBelow n p) (λ t. clash (all-below-at n i t l) f) (λ g. g)
+
   -- where every other number passes, one decides
   pub all-below-one : (n i : ℕ) → i < n → ((j : ℕ) → j < n → (j ≡ i → ⊥) → p j ≡ true) → allBelow n p ≡ p i
   all-below-one n i l others =
       by-bool (p i)
       (λ t. all-below n (λ j m. by-eq j i (λ q. ap p q ∙ t) (λ q. others j m q)) ∙ sym t)
-      (λ f. by-bool (allBelow n p) (λ t. clash (all-below-at n i t l) f) (λ g. g ∙ sym f))
+      (λ f. all-below-fails n i l f ∙ sym f)
 
   -- a loop that accumulates the test
   pub all-below-more : (i : ℕ) → allBelow (i + 1) p ≡ (allBelow i p && p i)

@@ -172,7 +172,7 @@ fn refuse(line: Line, why: Refusal) -> Stepped
 }
 
 // One step: refused by 11, 12 or 13, or made.
-pub fn step(line: Line, boxes: &mut [u64; 4224], step: Step) -> Stepped
+pub fn step(mut line: Line, boxes: &mut [u64; 4224], step: Step) -> Stepped
     ensures { λ r. ⌜ stepOutcomeOf (r .answer) (netOf (r .line) (now (boxes .exit))) ≡ stepOn rules (netOf line (now (boxes .entry))) step ⌝ }
 {
     if !is_well_formed(line, boxes) {
@@ -189,16 +189,15 @@ pub fn step(line: Line, boxes: &mut [u64; 4224], step: Step) -> Stepped
         return refuse(line, Refusal::NotAllowed);
     }
     let next = delivery::receive(t, boxes, step, receiver);
-    let mut after = line;
-    after.stations[to] = next;
+    line.stations[to] = next;
     Stepped {
         answer: Answer::Made(step),
-        line: after,
+        line: line,
     }
 }
 
 // The step that a draw picks, made: refused by 11, or by 14 where no step is allowed.
-pub fn draw(line: Line, boxes: &mut [u64; 4224], d: u16) -> Stepped
+pub fn draw(mut line: Line, boxes: &mut [u64; 4224], d: u16) -> Stepped
     ensures { λ r. ⌜ stepOutcomeOf (r .answer) (netOf (r .line) (now (boxes .exit))) ≡ drawOn rules (netOf line (now (boxes .entry))) d ⌝ }
 {
     if !is_well_formed(line, boxes) {
@@ -215,11 +214,10 @@ pub fn draw(line: Line, boxes: &mut [u64; 4224], d: u16) -> Stepped
     let to = step.receiver as usize;
     let receiver = line.stations[to];
     let next = delivery::receive(t, boxes, step, receiver);
-    let mut after = line;
-    after.stations[to] = next;
+    line.stations[to] = next;
     Stepped {
         answer: Answer::Made(step),
-        line: after,
+        line: line,
     }
 }
 
@@ -259,34 +257,33 @@ fn count_words(boxes: &[u64]) -> usize
 // The steps that the draws pick, one after the other, until they are used up, one is refused, or the form is left. The counter is the place
 // among the draws and the number of steps made. The form is tested once: after that, only what the receiver has gathered can break it. Who
 // takes a message is kept, and the rows follow each step.
-pub fn run(line: Line, boxes: &mut [u64; 4224], draws: &[u16]) -> Ran
+pub fn run(mut line: Line, boxes: &mut [u64; 4224], draws: &[u16]) -> Ran
     ensures { λ r. ⌜ runOutcomeOf (r .answer) (r .steps) (r .«at_rest») (netOf (r .line) (now (boxes .exit))) ≡ runOn rules (netOf line (now (boxes .entry))) (now (draws .entry)) ⌝ }
 {
     if !is_well_formed(line, boxes) {
         return stop_outside(line, 0);
     }
     let words = count_words(boxes);
-    let mut here = line;
     let mut takers = listing::find_takers(line);
     let mut rows = [0u64; 256];
     let mut sizes = listing::fill_net(&mut rows, line, takers, boxes);
     let mut made: usize = 0;
     while made < draws.len() {
-        let t = here.config;
+        let t = line.config;
         let drawn = schedule::rows::pick(&rows, sizes, t.k, draws[made]);
         let Drawn::Step(step) = drawn else {
-            return stop(here, made, true);
+            return stop(line, made, true);
         };
         let to = step.receiver as usize;
-        let receiver = here.stations[to];
+        let receiver = line.stations[to];
         let next = delivery::receive(t, boxes, step, receiver);
-        here.stations[to] = next;
+        line.stations[to] = next;
         made += 1;
         let held = next.held;
         if !aggregate::is_bounded(t, held) {
-            return stop_outside(here, made);
+            return stop_outside(line, made);
         }
-        let root = here.stations[aggregate::root(t) as usize];
+        let root = line.stations[aggregate::root(t) as usize];
         let old = takers;
         takers = listing::retake(old, step.receiver, next);
         sizes = listing::follow(
@@ -301,5 +298,5 @@ pub fn run(line: Line, boxes: &mut [u64; 4224], draws: &[u16]) -> Ran
         );
     }
     let c = schedule::rows::total(sizes);
-    stop(here, made, c == 0)
+    stop(line, made, c == 0)
 }

@@ -36,10 +36,9 @@ use Rattle.schedule.proofs.Running.{Running, goes-on-with, unformed-with}
 use Rattle.rendezvous.specs.declared.Net.{Net}
 use Rattle.rendezvous.specs.declared.listing.States.{States}
 use Rattle.rendezvous.specs.declared.listing.Sends.{Sends}
-use Rattle.rendezvous.specs.declared.figure.Two.{Two}
 use Rattle.rendezvous.specs.Net.{station, wellFormed, withOne, withTwo}
 use Rattle.rendezvous.specs.Figure.{wake, pass, answer, assigned}
-use Rattle.rendezvous.specs.internal.Receivers.{inState, statesOf, restated, keptAt, takersIn, Agree, Renewed, AreSends, HoldTakers, HoldSome, metBy}
+use Rattle.rendezvous.specs.internal.Receivers.{inState, statesOf, restated, keptAt, takersIn, Agree, Renewed, AreSends, HoldTakers, HoldSome, sentBy, receivedBy}
 use Rattle.rendezvous.specs.Rules.{rules}
 use Rattle.rendezvous.proofs.Laws.{k-most, sums-joinable}
 use Rattle.rendezvous.proofs.Places.{two-receiver}
@@ -81,15 +80,16 @@ module _ (net : Net) (few : net .config .k ≤ 64) (full : length (net .stations
       }
 
 -- the two stations of an allowed step, written one after the other
-pub made-is : (net : Net) (s : Step) {two : Two} → allowed rules net s ≡ true
-    → two ≡ metBy (net .config) (s .kind) (s .sender) (s .receiver) (station net (s .sender)) (station net (s .receiver))
-    → withTwo net (s .sender) (two .sender) (s .receiver) (two .receiver) ≡ rules .apply net s
-unfolding metBy assigned
-made-is net s a u =
+pub made-is : (net : Net) (s : Step) {sender receiver : Station} → allowed rules net s ≡ true
+    → sender ≡ sentBy (s .kind) (s .receiver) (station net (s .sender))
+    → receiver ≡ receivedBy (net .config) (s .kind) (s .sender) (station net (s .sender)) (station net (s .receiver))
+    → withTwo net (s .sender) sender (s .receiver) receiver ≡ rules .apply net s
+unfolding sentBy receivedBy assigned
+made-is net s a u v =
     let kind = s .kind in
     let j = s .sender in
     let b = range-bounds rules net s (allowed-parts rules net s a .0) in
-    rw u
+    rw (u, v)
     (by-bool (eqb kind wake) (λ w. rw w)
     (λ w. by-bool (eqb kind pass) (λ p. rw (w, p))
     (λ p. by-bool (eqb kind answer) (λ q. rw (w, p, q))
@@ -136,31 +136,32 @@ module _ {first : Net} {draws : List ℕ} {here : Net} {states : States} {kept r
     pub joins : joinable (here .config) (station here (s .receiver) .held) (station here (s .sender) .held) ≡ true
     joins = sums-joinable here formed s (allowed-parts rules here s may .0)
 
-    module _ {two : Two} (u : two ≡ metBy (here .config) (s .kind) (s .sender) (s .receiver) (station here (s .sender)) (station here (s .receiver))) where
+    module _ {sender receiver : Station} (u : sender ≡ sentBy (s .kind) (s .receiver) (station here (s .sender)))
+        (v : receiver ≡ receivedBy (here .config) (s .kind) (s .sender) (station here (s .sender)) (station here (s .receiver))) where
       abbrev next : Net
-      next = withTwo here (s .sender) (two .sender) (s .receiver) (two .receiver)
+      next = withTwo here (s .sender) sender (s .receiver) receiver
 
       after : next ≡ rules .apply here s
-      after = made-is here s may u
+      after = made-is here s may u v
 
-      decides : wellFormed next ≡ bounded (here .config) (two .receiver .held)
+      decides : wellFormed next ≡ bounded (here .config) (receiver .held)
       decides =
           next-formed here s formed may after
           ∙ ap (λ (x : Station). bounded (here .config) (x .held))
-          (two-receiver here (s .sender) (s .receiver) (two .sender) (two .receiver) (omega (arith, G .known .full, receiver-low)))
+          (two-receiver here (s .sender) (s .receiver) sender receiver (omega (arith, G .known .full, receiver-low)))
 
-      pub ends-outside : bounded (here .config) (two .receiver .held) ≡ false
+      pub ends-outside : bounded (here .config) (receiver .held) ≡ false
           → runOn rules first draws ≡ record { number = numberOf OutOfForm; steps = made + 1; rest = false; net = next }
       ends-outside b = unformed-with rules (G .running) filled h e q after (decides ∙ b)
 
-      module _ {kept₁ kept₂ : List ℕ} {states₁ states₂ : States} (x : Renewed (here .config) (s .sender) (two .sender) kept states kept₁ states₁)
-          (y : Renewed (here .config) (s .receiver) (two .receiver) kept₁ states₁ kept₂ states₂) where
+      module _ {kept₁ kept₂ : List ℕ} {states₁ states₂ : States} (x : Renewed (here .config) (s .sender) sender kept states kept₁ states₁)
+          (y : Renewed (here .config) (s .receiver) receiver kept₁ states₁ kept₂ states₂) where
         pub agree : Agree s states states₂
-        agree = states-agree s sender-low receiver-low (here .config) (two .sender) (two .receiver) kept states x y
+        agree = states-agree s sender-low receiver-low (here .config) sender receiver kept states x y
 
         pub others-hold : HoldSome (others s) (here .config .k) states (keptAt kept₂) rows z
         others-hold =
-            let same = kept-others s sender-low receiver-low (here .config) (two .sender) (two .receiver) kept states x y (G .known .sends-are .sized) in
+            let same = kept-others s sender-low receiver-low (here .config) sender receiver kept states x y (G .known .sends-are .sized) in
             record {
               hold = record {
                 sized = G .held .sized;
@@ -171,12 +172,12 @@ module _ {first : Net} {draws : List ℕ} {here : Net} {states : States} {kept r
               };
             }
 
-        pub goes-further : bounded (here .config) (two .receiver .held) ≡ true → {rows₂ : List ℕ} {z₂ : Sizes}
+        pub goes-further : bounded (here .config) (receiver .held) ≡ true → {rows₂ : List ℕ} {z₂ : Sizes}
             → HoldTakers (here .config .k) states₂ (keptAt kept₂) rows₂ z₂ → Going first draws next states₂ kept₂ rows₂ z₂ (made + 1)
         goes-further b H =
-            let one = known-one here few (G .known .full) (s .sender) (bounds .sender-low) (two .sender) (G .known) x in
+            let one = known-one here few (G .known .full) (s .sender) (bounds .sender-low) sender (G .known) x in
             record {
               running = goes-on-with rules (G .running) filled h e q after (decides ∙ b);
-              known = known-one (withOne here (s .sender) (two .sender)) few (one .full) (s .receiver) (bounds .receiver-low) (two .receiver) one y;
+              known = known-one (withOne here (s .sender) sender) few (one .full) (s .receiver) (bounds .receiver-low) receiver one y;
               held = H;
             }

@@ -13,7 +13,7 @@ ghost use mathlib.Core.Bool.{true};
 ghost use Rattle.aggregate.specs.Aggregate.{rootOf, joinable};
 ghost use Rattle.schedule.specs.Rules.{stepInRange};
 ghost use Rattle.rendezvous.specs.Figure.{report, mayStep};
-ghost use Rattle.rendezvous.specs.internal.Receivers.{metBy};
+ghost use Rattle.rendezvous.specs.internal.Receivers.{sentBy, receivedBy};
 
 pub(crate) fn is_in_range(t: Config, step: Step) -> bool
     ensures { λ r. ⌜ r ≡ stepInRange 4 report (t .k) (rootOf t) step ⌝ }
@@ -49,39 +49,29 @@ pub(crate) fn may_step(t: Config, step: Step, s: Station, r: Station) -> bool
     }
 }
 
-// The two stations of a step.
-pub(crate) struct Two {
-    pub(crate) sender: Station,
-    pub(crate) receiver: Station,
+// The sender after a step.
+pub(crate) fn send(step: Step, s: Station) -> Station
+    ensures { λ r. ⌜ r ≡ sentBy (step .kind) (step .receiver) s ⌝ }
+{
+    if (step.kind == WAKE) | (step.kind == PASS) {
+        return s.start_sent(step.receiver);
+    }
+    s.ended()
 }
 
-// The two stations after a step: the sender's event and the receiver's. A report is its one station's, twice.
-pub(crate) fn meet(t: Config, step: Step, s: Station, r: Station) -> Two
+// The receiver r after a step from s.
+pub(crate) fn receive(t: Config, step: Step, s: Station, r: Station) -> Station
     requires { ⌜ joinable t (r .held) (s .held) ≡ true ⌝ }
-    ensures { λ n. ⌜ n ≡ metBy t (step .kind) (step .sender) (step .receiver) s r ⌝ }
+    ensures { λ n. ⌜ n ≡ receivedBy t (step .kind) (step .sender) s r ⌝ }
 {
     let kind = step.kind;
-    let sender = step.sender;
-    let receiver = step.receiver;
     match kind {
-        WAKE => Two {
-            sender: s.start_sent(receiver),
-            receiver: r.woken(sender),
-        },
-        PASS => Two {
-            sender: s.start_sent(receiver),
-            receiver: r.start_taken(),
-        },
+        WAKE => r.woken(step.sender),
+        PASS => r.start_taken(),
         ANSWER => {
             let given = s.held;
-            Two {
-                sender: s.ended(),
-                receiver: r.answer_taken(t, given),
-            }
+            r.answer_taken(t, given)
         }
-        _ => Two {
-            sender: s.ended(),
-            receiver: r.ended(),
-        },
+        _ => r.ended(),
     }
 }

@@ -115,7 +115,7 @@ fn refuse(net: Net, why: Refusal) -> Stepped
 }
 
 // One step: refused by 11, 12 or 13, or made.
-pub fn step(net: Net, step: Step) -> Stepped
+pub fn step(mut net: Net, step: Step) -> Stepped
     ensures { λ r. ⌜ stepOutcomeOf (r .answer) (r .net) ≡ stepOn rules net step ⌝ }
 {
     if !is_well_formed(net) {
@@ -132,29 +132,29 @@ pub fn step(net: Net, step: Step) -> Stepped
     if !figure::may_step(t, step, sender, receiver) {
         return refuse(net, Refusal::NotAllowed);
     }
-    let two = figure::meet(t, step, sender, receiver);
-    let s = two.sender;
-    let r = two.receiver;
-    let mut next = net;
-    next.stations[j] = s;
-    next.stations[i] = r;
+    let s = figure::send(step, sender);
+    let r = figure::receive(t, step, sender, receiver);
+    net.stations[j] = s;
+    net.stations[i] = r;
     Stepped {
         answer: Answer::Made(step),
-        net: next,
+        net: net,
     }
 }
 
 // The step that a draw picks, made: refused by 11, or by 14 where no step is allowed.
-pub fn draw(net: Net, d: u16) -> Stepped
+pub fn draw(mut net: Net, d: u16) -> Stepped
     ensures { λ r. ⌜ stepOutcomeOf (r .answer) (r .net) ≡ drawOn rules net d ⌝ }
 {
-    if !is_well_formed(net) {
+    let mut kept = [0u64; 192];
+    let found = listing::survey(net, &mut kept);
+    if !found.formed {
         return refuse(net, Refusal::OutOfForm);
     }
     let t = net.config;
-    let states = listing::by_state(net);
+    let states = found.states;
     let mut rows = [0u64; 256];
-    let sizes = listing::fill_anew(&mut rows, net, states);
+    let sizes = listing::fill(&mut rows, t.k, &kept, states);
     let drawn = schedule::rows::pick(&rows, sizes, t.k, d);
     let Drawn::Step(step) = drawn else {
         return refuse(net, Refusal::NothingAllowed);
@@ -163,15 +163,13 @@ pub fn draw(net: Net, d: u16) -> Stepped
     let i = step.receiver as usize;
     let sender = net.stations[j];
     let receiver = net.stations[i];
-    let two = figure::meet(t, step, sender, receiver);
-    let s = two.sender;
-    let r = two.receiver;
-    let mut next = net;
-    next.stations[j] = s;
-    next.stations[i] = r;
+    let s = figure::send(step, sender);
+    let r = figure::receive(t, step, sender, receiver);
+    net.stations[j] = s;
+    net.stations[i] = r;
     Stepped {
         answer: Answer::Made(step),
-        net: next,
+        net: net,
     }
 }
 
@@ -202,43 +200,42 @@ fn stop_outside(net: Net, steps: usize) -> Ran
 // The steps that the draws pick, one after the other, until they are used up, one is refused, or the form is left. The counter is the place
 // among the draws and the number of steps made. The form is tested once: after that, only what the receiver has gathered can break it. What
 // the stations may send is kept, and only that of the two that a step changes is found anew; the rows follow each step.
-pub fn run(net: Net, draws: &[u16]) -> Ran
+pub fn run(mut net: Net, draws: &[u16]) -> Ran
     ensures { λ r. ⌜ runOutcomeOf (r .answer) (r .steps) (r .«at_rest») (r .net) ≡ runOn rules net (now (draws .entry)) ⌝ }
 {
-    if !is_well_formed(net) {
+    let mut kept = [0u64; 192];
+    let found = listing::survey(net, &mut kept);
+    if !found.formed {
         return stop_outside(net, 0);
     }
-    let mut here = net;
-    let mut states = listing::by_state(net);
-    let mut kept = listing::keep_all(net);
+    let mut states = found.states;
     let mut rows = [0u64; 256];
     let mut sizes = listing::fill(&mut rows, net.config.k, &kept, states);
     let mut made: usize = 0;
     while made < draws.len() {
-        let t = here.config;
+        let t = net.config;
         let drawn = schedule::rows::pick(&rows, sizes, t.k, draws[made]);
         let Drawn::Step(step) = drawn else {
-            return stop(here, made, true);
+            return stop(net, made, true);
         };
         let j = step.sender as usize;
         let i = step.receiver as usize;
-        let sender = here.stations[j];
-        let receiver = here.stations[i];
-        let two = figure::meet(t, step, sender, receiver);
-        let s = two.sender;
-        let r = two.receiver;
-        here.stations[j] = s;
-        here.stations[i] = r;
+        let sender = net.stations[j];
+        let receiver = net.stations[i];
+        let s = figure::send(step, sender);
+        let r = figure::receive(t, step, sender, receiver);
+        net.stations[j] = s;
+        net.stations[i] = r;
         let old = states;
         states = listing::renew(&mut kept, states, t, step.sender, s);
         states = listing::renew(&mut kept, states, t, step.receiver, r);
         made += 1;
         let held = r.held;
         if !aggregate::is_bounded(t, held) {
-            return stop_outside(here, made);
+            return stop_outside(net, made);
         }
         sizes = listing::follow(&mut rows, sizes, t.k, &kept, old, states, step);
     }
     let c = schedule::rows::total(sizes);
-    stop(here, made, c == 0)
+    stop(net, made, c == 0)
 }

@@ -6,11 +6,12 @@ use schedule::Step;
 use schedule::rows::Sizes;
 use station::Station;
 ghost use mathlib.Core.Path.{_≡_};
+ghost use mathlib.Core.Bool.{false};
 ghost use Prim.Native.Nat.{_≤_, _<_};
 ghost use lib.ListN.{length};
 ghost use Rattle.schedule.specs.internal.Rows.{sizesWithout, others};
-ghost use Rattle.rendezvous.specs.internal.Receivers.{statesOf, restated, sendsOf, sentIn, keptAt, withSends};
-ghost use Rattle.rendezvous.specs.internal.Receivers.{Agree, Renewed, AreSends, HasRows, HoldTakers, HoldSome};
+ghost use Rattle.rendezvous.specs.internal.Receivers.{restated, sendsOf, keptAt, withSends};
+ghost use Rattle.rendezvous.specs.internal.Receivers.{Agree, Renewed, Surveyed, HasRows, HoldTakers, HoldSome};
 
 // The stations that can take a start, and of these the ones that can take an answer.
 pub(crate) struct States {
@@ -18,27 +19,7 @@ pub(crate) struct States {
     pub(crate) active: u64,
 }
 
-pub(crate) fn by_state(net: Net) -> States
-    requires { ⌜ net .config .k ≤ 64 ⌝ }
-    ensures { λ r. ⌜ r ≡ statesOf net ⌝ }
-{
-    let k = net.config.k;
-    let mut asleep: u64 = 0;
-    let mut active: u64 = 0;
-    let mut i: u8 = 0;
-    while i < k {
-        let s = net.stations[i as usize];
-        asleep += bit_if(s.state == station::ASLEEP, i);
-        active += bit_if(s.state == station::ACTIVE, i);
-        i += 1;
-    }
-    States {
-        asleep: asleep,
-        active: active,
-    }
-}
-
-// The same, where station i has come to a state.
+// The states, where station i has come to one.
 fn restate(states: States, i: u8, state: u8) -> States
     ensures { λ r. ⌜ r ≡ restated i state states ⌝ }
 {
@@ -114,22 +95,57 @@ pub(crate) fn renew(kept: &mut [u64; 192], states: States, t: Config, j: u8, s: 
     restate(states, j, s.state)
 }
 
-// What all stations may send, kept.
-pub(crate) fn keep_all(net: Net) -> [u64; 192]
-    requires { ⌜ net .config .k ≤ 64 ⌝ }
-    ensures { λ r. ⌜ AreSends net (net .config .k) r ⌝ }
+// What a pass over all stations finds: whether the net is well-formed, and then the states.
+pub(crate) struct Findings {
+    pub(crate) formed: bool,
+    pub(crate) states: States,
+}
+
+// A net that is not well-formed has nothing else that is asked for.
+fn unformed() -> Findings
+    ensures { λ r. ⌜ r .formed ≡ false ⌝ }
+{
+    Findings {
+        formed: false,
+        states: States {
+            asleep: 0,
+            active: 0,
+        },
+    }
+}
+
+// One pass over all stations: the form is tested, the states are found, and what each may send is kept. A function that reads the stations
+// copies them, so this is one.
+pub(crate) fn survey(net: Net, kept: &mut [u64; 192]) -> Findings
+    requires { ⌜ length (now kept) ≡ 192 ⌝ }
+    ensures { λ r. ⌜ Surveyed net (r .formed) (r .states) (now (kept .exit)) ⌝ }
 {
     let t = net.config;
+    if !aggregate::is_valid(t) {
+        return unformed();
+    }
     let k = t.k;
-    let mut kept = [0u64; 192];
+    let mut asleep: u64 = 0;
+    let mut active: u64 = 0;
     let mut j: u8 = 0;
     while j < k {
         let s = net.stations[j as usize];
+        if !s.is_well_formed(t, j) {
+            return unformed();
+        }
+        asleep += bit_if(s.state == station::ASLEEP, j);
+        active += bit_if(s.state == station::ACTIVE, j);
         let sends = find_sends(t, j, s);
-        keep(&mut kept, j, sends);
+        keep(kept, j, sends);
         j += 1;
     }
-    kept
+    Findings {
+        formed: true,
+        states: States {
+            asleep: asleep,
+            active: active,
+        },
+    }
 }
 
 // The rows of a sender, stored, and the sizes with them: of what it may send, what stations in these states can take. Most may send nothing.
@@ -231,22 +247,4 @@ pub(crate) fn follow(
         x += 1;
     }
     all
-}
-
-// The same of a net of which nothing is kept: a single draw has no use for it afterwards.
-pub(crate) fn fill_anew(rows: &mut [u64; 256], net: Net, states: States) -> Sizes
-    requires { ⌜ (net .config .k ≤ 64) × (length (now rows) ≡ 256) ⌝ }
-    ensures { λ r. ⌜ HoldTakers (net .config .k) states (sentIn net) (now (rows .exit)) r ⌝ }
-{
-    let t = net.config;
-    let k = t.k;
-    let mut sizes = schedule::rows::no_sizes();
-    let mut sender: u8 = 0;
-    while sender < k {
-        let s = net.stations[sender as usize];
-        let sends = find_sends(t, sender, s);
-        sizes = put_rows(rows, sizes, states, sender, sends);
-        sender += 1;
-    }
-    sizes
 }

@@ -66,14 +66,15 @@ pub fn are_well_formed(t: Config, stations: [Station; 64]) -> bool
         return false;
     }
     let k = t.k;
-    let mut ok = true;
     let mut i: u8 = 0;
     while i < k {
         let s = stations[i as usize];
-        ok = ok & s.is_well_formed(t, i);
+        if !s.is_well_formed(t, i) {
+            return false;
+        }
         i += 1;
     }
-    ok
+    true
 }
 
 // Whether the kind and the stations of a step are in range, in a net with so many kinds of step and stations.

@@ -1,42 +1,50 @@
--- `bitset::size` meets its contract. Each turn counts one byte more: the sum is the number of stations below `at` in the set.
--- Assumes nothing.
-use mathlib.Core.Path.{_≡_, _∙_, ap}
+-- `bitset::size` meets its contract. antt computes the counts of 0 to 255 and finds the code's table; each turn counts one byte more, so the sum is
+-- the number of stations below `at` in the set. Assumes nothing.
+use mathlib.Core.Path.{_≡_, refl, _∙_, ap}
+use mathlib.Core.List.{List}
 use Prim.Native.Nat.{ℕ, _≤_, _-_, _/_, _%_, _^_}
 use native.Mathlib.Omega.{arith}
+use lib.ListN.{getD}
 use borrow.Author.Needs.{needs}
 use Rattle.bitset.specs.Set.{membersBelow, size}
 use Rattle.bitset.proofs.Bits.{count-byte, count-le}
+use Rattle.bitset.proofs.Entries.{table, entry}
 use Rattle.bitset.proofs.size.Statement.{statement}
 use Rattle.bitset.proofs.size.Tie as tie
 
 abbrev Inv-loop : tie.InvT-loop
-Inv-loop set sum₀ at₀ sum at = (at ≤ 64) × (at % 8 ≡ 0) × (sum ≡ membersBelow at set)
+Inv-loop set counts sum₀ at₀ sum at =
+    (at ≤ 64) × (at % 8 ≡ 0) × (sum ≡ membersBelow at set) × (counts ≡ table (membersBelow 8) 256)
+
+-- the entry of a byte, where the table has the counts
+entry-counts : (counts : List ℕ) → counts ≡ table (membersBelow 8) 256 → (b : ℕ) → getD counts (b % 256) 0 ≡ membersBelow 8 (b % 256)
+entry-counts counts same b = ap (λ (l : List ℕ). getD l (b % 256) 0) same ∙ entry (membersBelow 8) 256 (b % 256) (omega arith)
 
 abbrev μ-loop : tie.MeasureT-loop
-μ-loop set sum₀ at₀ sum at = 64 - at
+μ-loop set counts sum₀ at₀ sum at = 64 - at
 
 loop-holds : tie.Need-loop-holds Inv-loop μ-loop
 unfolding membersBelow
-loop-holds c = search needs
+loop-holds c = (omega arith, refl, refl, refl)
 
-cast-byte-size : tie.Need-cast-byte-size Inv-loop μ-loop
-cast-byte-size c = search needs
+cast-sum : tie.Need-cast-sum Inv-loop μ-loop
+cast-sum c = search needs
 
-shr-byte-size : tie.Need-shr-byte-size Inv-loop μ-loop
-shr-byte-size c = search needs
+shr-sum : tie.Need-shr-sum Inv-loop μ-loop
+shr-sum c = search needs
 
-cast-byte-size-2 : tie.Need-cast-byte-size-2 Inv-loop μ-loop
-cast-byte-size-2 c = search needs
-
-byte-size-requires : tie.Need-byte-size-requires Inv-loop μ-loop
-byte-size-requires c κs = search needs
+array-read-sum : tie.Need-array-read-sum Inv-loop μ-loop
+array-read-sum c = search needs
 
 add-sum : tie.Need-add-sum Inv-loop μ-loop
 add-sum c =
+    let l = c .before .loop in
+    let set = c .before .before .args .set in
     omega (
       arith,
-      count-le (c .before .before .loop .at) (c .before .before .before .args .set),
-      count-le 8 (c .before .before .before .args .set / 2 ^ (c .before .before .loop .at) % 256),
+      entry-counts _ (l .inv .3) (set / 2 ^ (l .at)),
+      count-le (l .at) set,
+      count-le 8 (set / 2 ^ (l .at) % 256),
     )
 
 add-at : tie.Need-add-at Inv-loop μ-loop
@@ -46,14 +54,10 @@ loop-less : tie.Need-loop-less Inv-loop μ-loop
 loop-less c = search needs
 
 loop-again : tie.Need-loop-again Inv-loop μ-loop
-loop-again c = (
-  omega arith,
-  omega arith,
-  omega (
-    arith,
-    count-byte (c .before .before .loop .at) (c .before .before .before .args .set),
-  ),
-)
+loop-again c =
+    let l = c .before .loop in
+    let set = c .before .before .args .set in
+    (omega arith, omega arith, omega (arith, entry-counts _ (l .inv .3) (set / 2 ^ (l .at)), count-byte (l .at) set), l .inv .3)
 
 returns : tie.Need-returns Inv-loop μ-loop
 unfolding size
@@ -68,10 +72,9 @@ size-spec =
     Inv-loop
     μ-loop
     loop-holds
-    cast-byte-size
-    shr-byte-size
-    cast-byte-size-2
-    byte-size-requires
+    cast-sum
+    shr-sum
+    array-read-sum
     add-sum
     add-at
     loop-less

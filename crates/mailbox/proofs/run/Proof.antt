@@ -16,17 +16,17 @@ use Rattle.mailbox.proofs.run.Statement.{statement}
 use Rattle.mailbox.proofs.run.Tie as tie
 
 abbrev Inv-loop : tie.InvT-loop
-Inv-loop boxes₀ draws words here₀ takers₀ rows₀ sizes₀ made₀ boxes here takers rows sizes made = Going here₀ boxes₀ draws here boxes takers rows sizes made
+Inv-loop boxes₀ draws line₀ words takers₀ rows₀ sizes₀ made₀ boxes line takers rows sizes made = Going line₀ boxes₀ draws line boxes takers rows sizes made
 
 abbrev μ-loop : tie.MeasureT-loop
-μ-loop boxes₀ draws words here₀ takers₀ rows₀ sizes₀ made₀ boxes here takers rows sizes made = length draws - made
+μ-loop boxes₀ draws line₀ words takers₀ rows₀ sizes₀ made₀ boxes line takers rows sizes made = length draws - made
 
 -- past the test of the form
-formed : (c : tie.Else1 Inv-loop μ-loop) → let a = c .before .before .before .before .args in wellFormed (netOf (a .line) (a .boxes .now)) ≡ true
+formed : (c : tie.Else1 Inv-loop μ-loop) → let a = c .before .before .before .before .args in wellFormed (netOf (a .t1) (a .boxes .now)) ≡ true
 formed c = sym (c .before .is-well-formed .ensures) ∙ not-false _ (c .if1 .left)
 
-full : (c : tie.Start Inv-loop μ-loop) → length (c .args .line .stations) ≡ 64
-full c = sym (length-map (c .args .line .stations) _) ∙ c .good .0 .1 .1 .1 .0 .1 .0 .1
+full : (c : tie.Start Inv-loop μ-loop) → length (c .args .t1 .stations) ≡ 64
+full c = sym (length-map (c .args .t1 .stations) _) ∙ c .good .0 .1 .1 .1 .0 .1 .0 .1
 
 -- the receiver of the step that was drawn has a place
 low : (c : tie.After-known-told Inv-loop μ-loop) → c .before .drawn .given .0 .0 .receiver < 64
@@ -45,7 +45,7 @@ returns : tie.Need-returns Inv-loop μ-loop
 returns c =
     let a = c .before .before .before .before .before .args in
     c .stop-outside .ensures _
-    ∙ sym (barred-with rules (netOf (a .line) (a .boxes .now)) (a .draws .now) (sym (c .before .before .is-well-formed .ensures) ∙ not-true _ (c .before .if1 .taken)))
+    ∙ sym (barred-with rules (netOf (a .t1) (a .boxes .now)) (a .draws .now) (sym (c .before .before .is-well-formed .ensures) ∙ not-true _ (c .before .if1 .taken)))
 
 count-words-requires : tie.Need-count-words-requires Inv-loop μ-loop
 count-words-requires c κs = search needs
@@ -54,13 +54,13 @@ find-takers-requires : tie.Need-find-takers-requires Inv-loop μ-loop
 find-takers-requires c κs =
     let past = c .before .before .before in
     let a = past .before .before .before .before .args in
-    k-most (netOf (a .line) (a .boxes .now)) (formed past)
+    k-most (netOf (a .t1) (a .boxes .now)) (formed past)
 
 fill-net-requires : tie.Need-fill-net-requires Inv-loop μ-loop
 fill-net-requires c κs =
     let past = c .before .before .before .before .before .before in
     let a = past .before .before .before .before .args in
-    let net = netOf (a .line) (a .boxes .now) in
+    let net = netOf (a .t1) (a .boxes .now) in
     (k-most net (formed past), root-placed net (formed past), length-replicate {A = ℕ} 256 0)
 
 loop-holds : tie.Need-loop-holds Inv-loop μ-loop
@@ -69,7 +69,7 @@ loop-holds c =
     let start = past .before .before .before .before in
     let a = start .args in
     record {
-      running = run-starts rules (netOf (a .line) (a .boxes .now)) (a .draws .now) (formed past);
+      running = run-starts rules (netOf (a .t1) (a .boxes .now)) (a .draws .now) (formed past);
       long = search needs;
       full = full start;
       known = c .before .before .before .find-takers .ensures;

@@ -1,5 +1,5 @@
 -- `rendezvous::draw` meets its contract: outside the form a draw is refused, and else what is picked from the rows decides. Assumes nothing.
-use mathlib.Core.Path.{_≡_, refl, sym, _∙_, ap}
+use mathlib.Core.Path.{_≡_, sym, _∙_, ap}
 use mathlib.Core.Bool.{true}
 use Prim.Native.Nat.{ℕ, _≤_, _<_}
 use lib.ListN.{length-replicate}
@@ -13,7 +13,6 @@ use Rattle.schedule.proofs.Outcomes.{draw-unformed}
 use Rattle.schedule.proofs.Drawing.{drawn-nothing, drawn-allowed, drawn-accepted}
 use Rattle.rendezvous.specs.declared.Net.{Net}
 use Rattle.rendezvous.specs.Net.{wellFormed}
-use Rattle.rendezvous.specs.internal.Receivers.{sentIn}
 use Rattle.rendezvous.specs.Rules.{rules}
 use Rattle.rendezvous.proofs.Laws.{k-most, places, sums-joinable}
 use Rattle.rendezvous.proofs.RowSets.{rows-filled}
@@ -22,24 +21,28 @@ use Rattle.rendezvous.proofs.draw.Statement.{statement}
 use Rattle.rendezvous.proofs.draw.Tie as tie
 
 -- past the test of the form
-formed : (c : tie.Else1) → wellFormed (c .before .before .args .t1) ≡ true
-formed c = sym (c .before .is-well-formed .ensures) ∙ not-false _ (c .if1 .left)
+found : (c : tie.Else1) → c .before .before .survey .result .formed ≡ true
+found c = not-false _ (c .if1 .left)
 
-few : (c : tie.Else1) → c .before .before .args .t1 .config .k ≤ 64
-few c = k-most (c .before .before .args .t1) (formed c)
+formed : (c : tie.Else1) → wellFormed (c .before .before .before .before .args .t1) ≡ true
+formed c = sym (c .before .before .survey .ensures .form) ∙ found c
+
+few : (c : tie.Else1) → c .before .before .before .before .args .t1 .config .k ≤ 64
+few c = k-most (c .before .before .before .before .args .t1) (formed c)
 
 -- where a pick was made
 abbrev formedOf : tie.After-pick → tie.Else1
-formedOf c = c .before .before .before .before .before .before
+formedOf c = c .before .before .before .before .before .before .before
 
 abbrev netOf : tie.After-pick → Net
-netOf c = c .before .before .before .before .before .before .before .before .args .t1
+netOf c = c .before .before .before .before .before .before .before .before .before .before .before .args .t1
 
 -- the rows are those of the net
-filled : (c : tie.After-pick) → Filled rules (netOf c) (c .before .before .fill-anew .last .0) (c .before .before .fill-anew .result)
+filled : (c : tie.After-pick) → Filled rules (netOf c) (c .before .before .fill .last .0) (c .before .before .fill .result)
 filled c =
-    let fill = c .before .before in
-    rows-filled (netOf c) (sentIn (netOf c)) (few (formedOf c)) (λ j l. refl) (fill .before .before .by-state .ensures) (fill .fill-anew .ensures)
+    let past = formedOf c in
+    let survey = past .before .before .survey .ensures in
+    rows-filled (netOf c) _ (few past) (survey .sends-are (found past) .word) (survey .states-are (found past)) (c .before .before .fill .ensures)
 
 -- the step picked is allowed, so its stations have places
 may : (c : tie.After-known-told) → allowed rules (netOf (c .before .before .before)) (c .before .drawn .given .0 .0) ≡ true
@@ -51,23 +54,20 @@ ranged c = allowed-parts rules _ _ (may c) .0
 low : (c : tie.After-known-told) → let step = c .before .drawn .given .0 .0 in (step .sender < 64) × (step .receiver < 64)
 low c = let pick = c .before .before .before in places (netOf pick) (formed (formedOf pick)) _ (ranged c)
 
-is-well-formed-requires : tie.Need-is-well-formed-requires
-is-well-formed-requires c κs = search needs
+survey-requires : tie.Need-survey-requires
+survey-requires c κs = length-replicate {A = ℕ} 192 0
 
 refuse-requires : tie.Need-refuse-requires
 refuse-requires c κs = search needs
 
 returns : tie.Need-returns
 returns c =
-    let a = c .before .before .before .args in
+    let a = c .before .before .before .before .before .args in
     c .refuse .ensures
-    ∙ sym (draw-unformed rules (a .t1) (a .d) (sym (c .before .before .is-well-formed .ensures) ∙ not-true _ (c .before .if1 .taken)))
+    ∙ sym (draw-unformed rules (a .t1) (a .d) (sym (c .before .before .before .survey .ensures .form) ∙ not-true _ (c .before .if1 .taken)))
 
-by-state-requires : tie.Need-by-state-requires
-by-state-requires c κs = few (c .before)
-
-fill-anew-requires : tie.Need-fill-anew-requires
-fill-anew-requires c κs = (few (c .before .before .before), length-replicate {A = ℕ} 256 0)
+fill-requires : tie.Need-fill-requires
+fill-requires c κs = (few (c .before .before .before .before), length-replicate {A = ℕ} 256 0)
 
 slice-aggregate-pick : tie.Need-slice-aggregate-pick
 slice-aggregate-pick c = search needs
@@ -108,9 +108,12 @@ mul-receiver c = search needs
 element-copy-out-receiver : tie.Need-element-copy-out-receiver
 element-copy-out-receiver c = low (c .before .before .before) .1
 
-meet-requires : tie.Need-meet-requires
-meet-requires c κs =
-    let told = c .before .before .before .before in
+send-requires : tie.Need-send-requires
+send-requires c κs = search needs
+
+receive-requires : tie.Need-receive-requires
+receive-requires c κs =
+    let told = c .before .before .before .before .before in
     let pick = told .before .before .before in
     sums-joinable (netOf pick) (formed (formedOf pick)) _ (ranged told)
 
@@ -118,31 +121,30 @@ mul-s : tie.Need-mul-s
 mul-s c = search needs
 
 element-set-from-s : tie.Need-element-set-from-s
-element-set-from-s c = low (c .before .before .before .before .before .before .before) .0
+element-set-from-s c = low (c .before .before .before .before .before .before) .0
 
 mul-r : tie.Need-mul-r
 mul-r c = search needs
 
 element-set-from-r : tie.Need-element-set-from-r
-element-set-from-r c = low (c .before .before .before .before .before .before .before) .1
+element-set-from-r c = low (c .before .before .before .before .before .before) .1
 
 returns-3 : tie.Need-returns-3
 returns-3 c =
-    let told = c .before .before .before .before .before .before .before in
+    let told = c .before .before .before .before .before .before in
     let pick = told .before .before .before in
     let step = told .before .drawn .given .0 .0 in
-    ap (stepMade step) (made-is (netOf pick) step (may told) (c .before .before .meet .ensures))
+    ap (stepMade step) (made-is (netOf pick) step (may told) (c .before .send .ensures) (c .receive .ensures))
     ∙ sym (drawn-accepted rules (netOf pick) (filled pick) _ (pick .pick .ensures) (formed (formedOf pick)) (told .before .drawn .given .1))
 
 pub draw-spec : {M : Type 1} → statement M
 draw-spec =
     tie.close
     (tie.spec
-    is-well-formed-requires
+    survey-requires
     refuse-requires
     returns
-    by-state-requires
-    fill-anew-requires
+    fill-requires
     slice-aggregate-pick
     pick-requires
     enum-known-drawn
@@ -155,7 +157,8 @@ draw-spec =
     element-copy-out-sender
     mul-receiver
     element-copy-out-receiver
-    meet-requires
+    send-requires
+    receive-requires
     mul-s
     element-set-from-s
     mul-r

@@ -2,7 +2,7 @@
 -- the draws that are left; what its stations may send and its rows are known. Assumes nothing.
 use mathlib.Core.Path.{_≡_, sym, _∙_}
 use mathlib.Core.Bool.{true}
-use Prim.Native.Nat.{ℕ, _-_, _≤_, _<_}
+use Prim.Native.Nat.{ℕ, _-_, _<_}
 use native.Mathlib.Omega.{arith}
 use lib.ListN.{length, length-map, length-replicate}
 use borrow.Author.Needs.{needs}
@@ -16,20 +16,20 @@ use Rattle.rendezvous.proofs.run.Statement.{statement}
 use Rattle.rendezvous.proofs.run.Tie as tie
 
 abbrev Inv-loop : tie.InvT-loop
-Inv-loop draws here₀ states₀ kept₀ rows₀ sizes₀ made₀ here states kept rows sizes made = Going here₀ draws here states kept rows sizes made
+Inv-loop draws net₀ kept₀ states₀ rows₀ sizes₀ made₀ net kept states rows sizes made = Going net₀ draws net states kept rows sizes made
 
 abbrev μ-loop : tie.MeasureT-loop
-μ-loop draws here₀ states₀ kept₀ rows₀ sizes₀ made₀ here states kept rows sizes made = length draws - made
+μ-loop draws net₀ kept₀ states₀ rows₀ sizes₀ made₀ net kept states rows sizes made = length draws - made
 
 -- past the test of the form
-formed : (c : tie.Else1 Inv-loop μ-loop) → wellFormed (c .before .before .before .args .net) ≡ true
-formed c = sym (c .before .is-well-formed .ensures) ∙ not-false _ (c .if1 .left)
+found : (c : tie.Else1 Inv-loop μ-loop) → c .before .before .survey .result .formed ≡ true
+found c = not-false _ (c .if1 .left)
 
-small : (c : tie.Else1 Inv-loop μ-loop) → c .before .before .before .args .net .config .k ≤ 64
-small c = k-most (c .before .before .before .args .net) (formed c)
+formed : (c : tie.Else1 Inv-loop μ-loop) → wellFormed (c .before .before .before .before .before .args .t1) ≡ true
+formed c = sym (c .before .before .survey .ensures .form) ∙ found c
 
-full : (c : tie.Start Inv-loop μ-loop) → length (c .args .net .stations) ≡ 64
-full c = sym (length-map (c .args .net .stations) _) ∙ c .good .0 .1 .1 .1 .0 .1 .0 .1
+full : (c : tie.Start Inv-loop μ-loop) → length (c .args .t1 .stations) ≡ 64
+full c = sym (length-map (c .args .t1 .stations) _) ∙ c .good .0 .1 .1 .1 .0 .1 .0 .1
 
 -- the stations of the step that was drawn have places
 low-sender : (c : tie.After-known-told Inv-loop μ-loop) → c .before .drawn .given .0 .0 .sender < 64
@@ -44,35 +44,31 @@ low-receiver c =
     let test = pick .before .before .before .before in
     receiver-low (test .before .loop .inv) (test .loop-test .taken) (pick .pick .ensures) (c .before .drawn .given .1)
 
-is-well-formed-requires : tie.Need-is-well-formed-requires Inv-loop μ-loop
-is-well-formed-requires c κs = search needs
+survey-requires : tie.Need-survey-requires Inv-loop μ-loop
+survey-requires c κs = length-replicate {A = ℕ} 192 0
 
 stop-outside-requires : tie.Need-stop-outside-requires Inv-loop μ-loop
 stop-outside-requires c κs = search needs
 
 returns : tie.Need-returns Inv-loop μ-loop
 returns c =
-    let a = c .before .before .before .before .args in
+    let a = c .before .before .before .before .before .before .args in
     c .stop-outside .ensures
-    ∙ sym (barred-with rules (a .net) (a .draws .now) (sym (c .before .before .is-well-formed .ensures) ∙ not-true _ (c .before .if1 .taken)))
-
-by-state-requires : tie.Need-by-state-requires Inv-loop μ-loop
-by-state-requires c κs = small c
-
-keep-all-requires : tie.Need-keep-all-requires Inv-loop μ-loop
-keep-all-requires c κs = small (c .before)
+    ∙ sym (barred-with rules (a .t1) (a .draws .now) (sym (c .before .before .before .survey .ensures .form) ∙ not-true _ (c .before .if1 .taken)))
 
 fill-requires : tie.Need-fill-requires Inv-loop μ-loop
-fill-requires c κs = (small (c .before .before .before .before), length-replicate {A = ℕ} 256 0)
+fill-requires c κs =
+    let past = c .before .before .before in
+    (k-most (past .before .before .before .before .before .args .t1) (formed past), length-replicate {A = ℕ} 256 0)
 
 loop-holds : tie.Need-loop-holds Inv-loop μ-loop
 loop-holds c =
-    let kept = c .before .before .before in
-    let past = kept .before .before in
-    let start = past .before .before .before in
+    let past = c .before .before .before .before in
+    let start = past .before .before .before .before .before in
+    let survey = past .before .before .survey .ensures in
     record {
-      running = run-starts rules (start .args .net) (start .args .draws .now) (formed past);
-      known = record { sends-are = kept .keep-all .ensures; states-are = kept .before .by-state .ensures; full = full start };
+      running = run-starts rules (start .args .t1) (start .args .draws .now) (formed past);
+      known = record { sends-are = survey .sends-are (found past); states-are = survey .states-are (found past); full = full start };
       held = c .fill .ensures;
     }
 
@@ -123,9 +119,12 @@ mul-receiver c = search needs
 element-copy-out-receiver : tie.Need-element-copy-out-receiver Inv-loop μ-loop
 element-copy-out-receiver c = low-receiver (c .before .before .before)
 
-meet-requires : tie.Need-meet-requires Inv-loop μ-loop
-meet-requires c κs =
-    let told = c .before .before .before .before in
+send-requires : tie.Need-send-requires Inv-loop μ-loop
+send-requires c κs = search needs
+
+receive-requires : tie.Need-receive-requires Inv-loop μ-loop
+receive-requires c κs =
+    let told = c .before .before .before .before .before in
     let pick = told .before .before .before in
     let test = pick .before .before .before .before in
     joins (test .before .loop .inv) (test .loop-test .taken) (pick .pick .ensures) (told .before .drawn .given .1)
@@ -134,26 +133,26 @@ mul-s : tie.Need-mul-s Inv-loop μ-loop
 mul-s c = search needs
 
 element-set-from-s : tie.Need-element-set-from-s Inv-loop μ-loop
-element-set-from-s c = low-sender (c .before .before .before .before .before .before .before)
+element-set-from-s c = low-sender (c .before .before .before .before .before .before)
 
 mul-r : tie.Need-mul-r Inv-loop μ-loop
 mul-r c = search needs
 
 element-set-from-r : tie.Need-element-set-from-r Inv-loop μ-loop
-element-set-from-r c = low-receiver (c .before .before .before .before .before .before .before)
+element-set-from-r c = low-receiver (c .before .before .before .before .before .before)
 
 renew-requires : tie.Need-renew-requires Inv-loop μ-loop
-renew-requires c κs = low-sender (c .before .before .before .before .before .before .before .before)
+renew-requires c κs = low-sender (c .before .before .before .before .before .before .before)
 
 renew-requires-2 : tie.Need-renew-requires-2 Inv-loop μ-loop
-renew-requires-2 c κs = low-receiver (c .before .before .before .before .before .before .before .before .before .before)
+renew-requires-2 c κs = low-receiver (c .before .before .before .before .before .before .before .before .before)
 
 add-made : tie.Need-add-made Inv-loop μ-loop
 add-made c =
-    let meet = c .before .before .before .before .before .before in
-    let pick = meet .before .before .before .before .before .before .before .before in
+    let received = c .before .before .before .before in
+    let pick = received .before .before .before .before .before .before .before .before .before in
     let test = pick .before .before .before .before in
-    omega (arith, test .loop-test .taken, test .before .before .before .before .before .before .before .before .before .before .good .1 .0 .0)
+    omega (arith, test .loop-test .taken, test .before .before .before .before .before .before .before .before .before .before .before .good .1 .0 .0)
 
 is-bounded-requires : tie.Need-is-bounded-requires Inv-loop μ-loop
 is-bounded-requires c κs = search needs
@@ -163,47 +162,47 @@ stop-outside-requires-2 c κs = search needs
 
 returns-3 : tie.Need-returns-3 Inv-loop μ-loop
 returns-3 c =
-    let meet = c .before .before .before .before .before .before .before .before .before .before in
-    let told = meet .before .before .before .before .before in
+    let received = c .before .before .before .before .before .before .before .before in
+    let told = received .before .before .before .before .before .before in
     let pick = told .before .before .before in
     let test = pick .before .before .before .before in
     c .stop-outside2 .ensures
     ∙ sym (ends-outside (test .before .loop .inv) (test .loop-test .taken) (pick .pick .ensures) (told .before .drawn .given .1)
-    (meet .meet .ensures) (sym (c .before .before .is-bounded .ensures) ∙ not-true _ (c .before .if2 .taken)))
+    (received .before .send .ensures) (received .receive .ensures) (sym (c .before .before .is-bounded .ensures) ∙ not-true _ (c .before .if2 .taken)))
 
 follow-requires : tie.Need-follow-requires Inv-loop μ-loop
 follow-requires c κs =
     let two = c .before .before .before .before .before in
     let one = two .before .before in
-    let meet = one .before .before .before .before in
-    let told = meet .before .before .before .before .before in
+    let received = one .before .before in
+    let told = received .before .before .before .before .before .before in
     let pick = told .before .before .before in
     let test = pick .before .before .before .before in
     let inv = test .before .loop .inv in
     let given = told .before .drawn .given .1 in (
       (few inv, both-low inv (test .loop-test .taken) (pick .pick .ensures) given),
       (
-        agree inv (test .loop-test .taken) (pick .pick .ensures) given (meet .meet .ensures) (one .renew .ensures) (two .renew2 .ensures),
-        others-hold inv (test .loop-test .taken) (pick .pick .ensures) given (meet .meet .ensures) (one .renew .ensures) (two .renew2 .ensures),
+        agree inv (test .loop-test .taken) (pick .pick .ensures) given (received .before .send .ensures) (received .receive .ensures) (one .renew .ensures) (two .renew2 .ensures),
+        others-hold inv (test .loop-test .taken) (pick .pick .ensures) given (received .before .send .ensures) (received .receive .ensures) (one .renew .ensures) (two .renew2 .ensures),
       ),
     )
 
 loop-less : tie.Need-loop-less Inv-loop μ-loop
 loop-less c =
-    let meet = c .before .before .before .before .before .before .before .before .before .before .before .before in
-    let pick = meet .before .before .before .before .before .before .before .before in
+    let received = c .before .before .before .before .before .before .before .before .before .before in
+    let pick = received .before .before .before .before .before .before .before .before .before in
     omega (arith, pick .before .before .before .before .loop-test .taken)
 
 loop-again : tie.Need-loop-again Inv-loop μ-loop
 loop-again c =
     let two = c .before .before .before .before .before .before in
     let one = two .before .before in
-    let meet = one .before .before .before .before in
-    let told = meet .before .before .before .before .before in
+    let received = one .before .before in
+    let told = received .before .before .before .before .before .before in
     let pick = told .before .before .before in
     let test = pick .before .before .before .before in
     goes-further (test .before .loop .inv) (test .loop-test .taken) (pick .pick .ensures) (told .before .drawn .given .1)
-    (meet .meet .ensures) (one .renew .ensures) (two .renew2 .ensures)
+    (received .before .send .ensures) (received .receive .ensures) (one .renew .ensures) (two .renew2 .ensures)
     (sym (c .before .before .before .before .is-bounded .ensures) ∙ not-false _ (c .before .before .before .if2 .left)) (c .follow .ensures)
 
 total-requires : tie.Need-total-requires Inv-loop μ-loop
@@ -224,11 +223,9 @@ run-spec =
     (tie.spec
     Inv-loop
     μ-loop
-    is-well-formed-requires
+    survey-requires
     stop-outside-requires
     returns
-    by-state-requires
-    keep-all-requires
     fill-requires
     loop-holds
     slice-aggregate-pick
@@ -245,7 +242,8 @@ run-spec =
     element-copy-out-sender
     mul-receiver
     element-copy-out-receiver
-    meet-requires
+    send-requires
+    receive-requires
     mul-s
     element-set-from-s
     mul-r

@@ -92,9 +92,12 @@ returns-3 c =
     ∙ sym (step-barred rules (a .t1) (a .step) (formed first) (ranged second)
     (sym (c .before .before .may-step .ensures) ∙ not-true _ (c .before .if3 .taken)))
 
-meet-requires : tie.Need-meet-requires
-meet-requires c κs =
-    let second = c .before .before .before .before .before .before in
+send-requires : tie.Need-send-requires
+send-requires c κs = search needs
+
+receive-requires : tie.Need-receive-requires
+receive-requires c κs =
+    let second = c .before .before .before .before .before .before .before in
     let first = second .before .before .before in
     let a = first .before .before .args in
     sums-joinable (a .t1) (formed first) (a .step) (ranged second)
@@ -103,22 +106,22 @@ mul-s : tie.Need-mul-s
 mul-s c = search needs
 
 element-set-from-s : tie.Need-element-set-from-s
-element-set-from-s c = low (c .before .before .before .before .before .before .before .before .before) .0
+element-set-from-s c = low (c .before .before .before .before .before .before .before .before) .0
 
 mul-r : tie.Need-mul-r
 mul-r c = search needs
 
 element-set-from-r : tie.Need-element-set-from-r
-element-set-from-r c = low (c .before .before .before .before .before .before .before .before .before) .1
+element-set-from-r c = low (c .before .before .before .before .before .before .before .before) .1
 
 returns-4 : tie.Need-returns-4
 unfolding allowed
 returns-4 c =
-    let third = c .before .before .before in
+    let third = c .before .before in
     let second = third .before .before .before .before .before .before in
     let first = second .before .before .before in
     let a = first .before .before .args in
-    ap (stepMade (a .step)) (made-is (a .t1) (a .step) (rw (ranged second) (guarded third)) (c .before .before .meet .ensures))
+    ap (stepMade (a .step)) (made-is (a .t1) (a .step) (rw (ranged second) (guarded third)) (c .before .send .ensures) (c .receive .ensures))
     ∙ sym (step-taken rules (a .t1) (a .step) (formed first) (ranged second) (guarded third))
 
 pub step-spec : {M : Type 1} → statement M
@@ -140,7 +143,8 @@ step-spec =
     may-step-requires
     refuse-requires-3
     returns-3
-    meet-requires
+    send-requires
+    receive-requires
     mul-s
     element-set-from-s
     mul-r

@@ -1,7 +1,7 @@
 -- A step in its parts, and the receivers of the allowed steps, as sets: what a sender may send, which changes with the sender alone, and who can
 -- take it by the states.
 use mathlib.Core.Path.{_≡_}
-use mathlib.Core.Bool.{not, cond, _&&_}
+use mathlib.Core.Bool.{Bool, true, not, cond, _&&_, _||_}
 use mathlib.Core.List.{List}
 use Prim.Native.Nat.{ℕ, _+_, _^_, _≤_, _<_}
 use lib.ListN.{length, getD, set}
@@ -17,19 +17,19 @@ use Rattle.schedule.specs.declared.rows.Sizes.{Sizes}
 use Rattle.schedule.specs.Rows.{rowAt, added}
 use Rattle.schedule.specs.internal.Rows.{fourSet, sizesOf, others, HoldRows}
 use Rattle.rendezvous.specs.declared.Net.{Net}
-use Rattle.rendezvous.specs.declared.figure.Two.{Two}
 use Rattle.rendezvous.specs.declared.listing.States.{States}
 use Rattle.rendezvous.specs.declared.listing.Sends.{Sends}
-use Rattle.rendezvous.specs.Net.{station}
+use Rattle.rendezvous.specs.Net.{station, wellFormed}
 use Rattle.rendezvous.specs.Figure.{wake, pass, answer, finishes, starts, wakes, hears, gathers}
 
--- what a step makes of its two stations alone; a report is its one station's, twice
-unfoldable pub metBy : Config → ℕ → ℕ → ℕ → Station → Station → Two
-metBy t kind j i s r =
-    cond (eqb kind wake) (record { sender = starts i s; receiver = wakes j r })
-    (cond (eqb kind pass) (record { sender = starts i s; receiver = hears r })
-    (cond (eqb kind answer) (record { sender = finishes s; receiver = gathers t s r })
-    (record { sender = finishes s; receiver = finishes r })))
+-- what a step makes of its sender, to station i
+unfoldable pub sentBy : ℕ → ℕ → Station → Station
+sentBy kind i s = cond (eqb kind wake || eqb kind pass) (starts i s) (finishes s)
+
+-- and of its receiver r, from station j, which was s; a report is its one station's, twice
+unfoldable pub receivedBy : Config → ℕ → ℕ → Station → Station → Station
+receivedBy t kind j s r =
+    cond (eqb kind wake) (wakes j r) (cond (eqb kind pass) (hears r) (cond (eqb kind answer) (gathers t s r) (finishes r)))
 
 -- the stations in a state
 unfoldable pub inState : Net → ℕ → ℕ
@@ -75,6 +75,12 @@ Renewed t j s kept states kept′ states′ = (kept′ ≡ withSends kept j (sen
 pub record AreSends (net : Net) (n : ℕ) (kept : List ℕ) : Type 0 where
   pub sized : length kept ≡ 192
   pub word : (j : ℕ) → j < n → keptAt kept j ≡ sentIn net j
+
+-- what a pass over all stations finds: whether the net is in form, and where it is, who is in which state and what each may send
+pub record Surveyed (net : Net) (formed : Bool) (states : States) (kept : List ℕ) : Type 0 where
+  pub form : formed ≡ wellFormed net
+  pub states-are : formed ≡ true → states ≡ statesOf net
+  pub sends-are : formed ≡ true → AreSends net (net .config .k) kept
 
 -- the receivers of a step of a kind: those to whom it may be sent and whose state lets them take it
 unfoldable pub takersIn : ℕ → Sends → States → ℕ

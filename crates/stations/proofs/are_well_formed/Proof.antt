@@ -1,11 +1,11 @@
--- `stations::are_well_formed` meets its contract. The invariant: ok says whether every station passed is well-formed. Assumes nothing.
-use mathlib.Core.Path.{_≡_, refl, sym, _∙_, ap₂}
-use mathlib.Core.Bool.{Bool, _&&_}
+-- `stations::are_well_formed` meets its contract. The invariant: every station passed is well-formed; one that is not ends it. Assumes nothing.
+use mathlib.Core.Path.{_≡_, refl, sym, _∙_}
+use mathlib.Core.Bool.{true, and-false}
 use Prim.Native.Nat.{_≤_, _-_}
 use native.Mathlib.Omega.{arith}
 use borrow.Author.Tests.{not-true, not-false}
 use Rattle.finite.specs.Below.{allBelow}
-use Rattle.finite.proofs.Below.{all-below-more}
+use Rattle.finite.proofs.Below.{all-below-more, all-below-fails}
 use Rattle.aggregate.proofs.Laws.{valid-k}
 use Rattle.station.specs.Form.{wellFormed}
 use Rattle.stations.specs.Stations.{stationAt, areWellFormed}
@@ -13,10 +13,10 @@ use Rattle.stations.proofs.are_well_formed.Statement.{statement}
 use Rattle.stations.proofs.are_well_formed.Tie as tie
 
 abbrev Inv-loop : tie.InvT-loop
-Inv-loop t stations k ok₀ i₀ ok i = (i ≤ k) × (ok ≡ allBelow i (λ j. wellFormed t j (stationAt stations j)))
+Inv-loop t stations k i₀ i = (i ≤ k) × (allBelow i (λ j. wellFormed t j (stationAt stations j)) ≡ true)
 
 abbrev μ-loop : tie.MeasureT-loop
-μ-loop t stations k ok₀ i₀ ok i = k - i
+μ-loop t stations k i₀ i = k - i
 
 is-valid-requires : tie.Need-is-valid-requires Inv-loop μ-loop
 is-valid-requires c κs = tt
@@ -43,6 +43,14 @@ array-copy-out-s c =
 is-well-formed-requires : tie.Need-is-well-formed-requires Inv-loop μ-loop
 is-well-formed-requires c κs = tt
 
+returns-2 : tie.Need-returns-2 Inv-loop μ-loop
+unfolding areWellFormed
+returns-2 c =
+    let l = c .before .before .before .before .loop in
+    let broken = sym (c .before .is-well-formed .ensures) ∙ not-true _ (c .if2 .taken) in
+    let a = c .before .before .before .before .before .before .before .args in
+    simp (all-below-fails (λ j. wellFormed (a .t) j (stationAt (a .t2) j)) (a .t .k) (l .i) (omega arith) broken, and-false)
+
 add-i : tie.Need-add-i Inv-loop μ-loop
 add-i c = omega arith
 
@@ -51,15 +59,15 @@ loop-less c = omega arith
 
 loop-again : tie.Need-loop-again Inv-loop μ-loop
 loop-again c =
-    let l = c .before .before .before .loop in
-    (omega arith, ap₂ (λ (a b : Bool). a && b) (l .inv .1) (c .is-well-formed .ensures) ∙ sym (all-below-more _ (l .i)))
+    let l = c .before .before .before .before .loop in
+    (omega arith, rw (all-below-more _ (l .i), l .inv .1, sym (c .before .is-well-formed .ensures) ∙ not-false _ (c .if2 .left)))
 
-returns-2 : tie.Need-returns-2 Inv-loop μ-loop
+returns-3 : tie.Need-returns-3 Inv-loop μ-loop
 unfolding areWellFormed
-returns-2 c =
+returns-3 c =
     let l = c .before .loop in
     let end : l .i ≡ c .before .before .before .before .args .t .k = omega arith in
-    rw (sym (c .before .before .before .is-valid .ensures) ∙ not-false _ (c .before .before .if1 .left)) (rw end at (l .inv .1))
+    rw (sym (c .before .before .before .is-valid .ensures) ∙ not-false _ (c .before .before .if1 .left)) (sym (rw end at (l .inv .1)))
 
 pub are-well-formed-spec : {M : Type 1} → statement M
 are-well-formed-spec =
@@ -74,7 +82,8 @@ are-well-formed-spec =
     mul-s
     array-copy-out-s
     is-well-formed-requires
+    returns-2
     add-i
     loop-less
     loop-again
-    returns-2)
+    returns-3)
