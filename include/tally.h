@@ -27,19 +27,26 @@ enum { TALLY_STATIONS = 64 };
 
 /* Bytes of stack that no call takes more than, its arguments included: events of a station, calls on maps, on stations that meet, and on
    stations with mail. */
-enum { TALLY_PROCESS_STACK = 1024, TALLY_MAP_STACK = 4096, TALLY_RENDEZVOUS_STACK = 12288, TALLY_MAILBOX_STACK = 12288 };
+enum { TALLY_PROCESS_STACK = 1024, TALLY_MAP_STACK = 4096, TALLY_RENDEZVOUS_STACK = 16384, TALLY_MAILBOX_STACK = 16384 };
 
 /* ---- one station --------------------------------------------------------------------------------------------------------------------
 
-   What a station has gathered. */
+   What a station has gathered: a sum of counts, and how many readings were missing. A count gathers itself and none, {count, 0};
+   TALLY_NO_READING gathers nothing and one, {0, 1}. In form are sums below 2^62 and missing numbers up to TALLY_MOST_MISSING. */
 struct tally_aggregate {
     uint64_t sum;
+    uint8_t missing;
 };
+
+/* The count of a head whose lamp failed. */
+#define TALLY_NO_READING ((uint32_t)4294967295)
+
+enum { TALLY_MOST_MISSING = 64 };
 
 /* The states of a station. */
 enum { TALLY_ASLEEP, TALLY_ACTIVE, TALLY_FINISHED };
 
-/* A station: its sum, the neighbours still to be started (bit j is station j), parent, waits and state. */
+/* A station: what it has gathered, the neighbours still to be started (bit j is station j), parent, waits and state. */
 struct tally_station {
     struct tally_aggregate held;
     uint64_t unstarted;
@@ -54,29 +61,30 @@ struct tally_process {
     struct tally_station station;
 };
 
-TALLY_ASSERT(sizeof(struct tally_aggregate) == 8);
-TALLY_ASSERT(sizeof(struct tally_station) == 24);
-TALLY_ASSERT(offsetof(struct tally_station, unstarted) == 8);
-TALLY_ASSERT(offsetof(struct tally_station, parent) == 16);
-TALLY_ASSERT(offsetof(struct tally_station, waits) == 17);
-TALLY_ASSERT(offsetof(struct tally_station, state) == 18);
-TALLY_ASSERT(sizeof(struct tally_process) == 32);
+TALLY_ASSERT(sizeof(struct tally_aggregate) == 16);
+TALLY_ASSERT(offsetof(struct tally_aggregate, missing) == 8);
+TALLY_ASSERT(sizeof(struct tally_station) == 32);
+TALLY_ASSERT(offsetof(struct tally_station, unstarted) == 16);
+TALLY_ASSERT(offsetof(struct tally_station, parent) == 24);
+TALLY_ASSERT(offsetof(struct tally_station, waits) == 25);
+TALLY_ASSERT(offsetof(struct tally_station, state) == 26);
+TALLY_ASSERT(sizeof(struct tally_process) == 40);
 TALLY_ASSERT(offsetof(struct tally_process, station) == 8);
 
-/* The events: 0, or 11 (station out of form), 12 (station number or sum out of range), 13 (not allowed), which leave the record. An
-   accepted event leaves the station after it. */
+/* The events: 0, or 11 (station out of form), 12 (station number, sum or missing number out of range), 13 (not allowed), which leave the
+   record. An accepted event leaves the station after it. */
 uint64_t tally_process_take_start(struct tally_process *p, uint8_t from);
 uint64_t tally_process_send_start(struct tally_process *p, uint8_t to);
 uint64_t tally_process_take_answer(struct tally_process *p, struct tally_aggregate v);
 
-/* 0 comes with the parent, as the value. The sum that is given is p->station.held. Station 0 reports; the others answer. */
+/* 0 comes with the parent, as the value. The sum and the missing number given are p->station.held. Station 0 reports; the others answer. */
 uint64_t tally_process_send_answer(struct tally_process *p);
 uint64_t tally_process_report(struct tally_process *p);
 
 /* ---- line maps ----------------------------------------------------------------------------------------------------------------------
 
-   k stations, 1 to 64, numbered from 0; the lot; and the count and the neighbours of each (bit j is station j). Places k and above are
-   zero after reading, and otherwise ignored. */
+   k stations, 1 to 64, numbered from 0; the lot; and the count (TALLY_NO_READING among them) and the neighbours of each (bit j is station
+   j). Places k and above are zero after reading, and otherwise ignored. */
 struct tally_map {
     uint8_t k;
     uint32_t lot;
@@ -122,7 +130,7 @@ struct tally_run {
 };
 
 TALLY_ASSERT(sizeof(struct tally_config) == 1);
-TALLY_ASSERT(sizeof(struct tally_rendezvous) == 1544);
+TALLY_ASSERT(sizeof(struct tally_rendezvous) == 2056);
 TALLY_ASSERT(offsetof(struct tally_rendezvous, stations) == 8);
 TALLY_ASSERT(sizeof(struct tally_run) == 16);
 TALLY_ASSERT(offsetof(struct tally_run, steps) == 8);
@@ -157,14 +165,16 @@ struct tally_line {
 };
 
 /* And its mailboxes. The one from s to r holds a start where bit r of starts[s] is set, whatever answers[s] has there; else, where bit r of
-   answers[s] is set, an answer, which brings sums[s][r]; else nothing.
+   answers[s] is set, an answer, which brings sums[s][r] and the missing number in the lowest byte of missing[s][r]; else nothing.
 
-   Any words are mailboxes. Emptying one clears its bit in both sets; posting sets its bit in one set and clears it in the other; only an
-   answer that is posted writes a sum. A sum beside no answer is not looked at. Mailboxes past k, and of a station to itself, are neither
+   Any words are mailboxes; what stands in the other seven bytes of a missing word is not looked at. Emptying a mailbox clears its bit in
+   both sets; posting sets its bit in one set and clears it in the other; only an answer that is posted writes a sum, and a missing word,
+   whose other bytes are zero then. Beside no answer neither word is looked at. Mailboxes past k, and of a station to itself, are neither
    looked at nor touched, but by an opening, which fills all words. */
 struct tally_mail {
     uint64_t starts[TALLY_STATIONS];
     uint64_t answers[TALLY_STATIONS];
+    uint64_t missing[TALLY_STATIONS][TALLY_STATIONS];
     uint64_t sums[TALLY_STATIONS][TALLY_STATIONS];
 };
 
@@ -172,11 +182,15 @@ struct tally_mail {
 #define TALLY_START_WAITS(mail, s, r) ((mail)->starts[s] >> (r) & 1)
 #define TALLY_ANSWER_WAITS(mail, s, r) (((mail)->answers[s] & ~(mail)->starts[s]) >> (r) & 1)
 
-TALLY_ASSERT(sizeof(struct tally_line) == 1544);
+/* The missing number of an answer that waits from s to r; its sum is sums[s][r]. */
+#define TALLY_ANSWER_MISSING(mail, s, r) ((uint8_t)(mail)->missing[s][r])
+
+TALLY_ASSERT(sizeof(struct tally_line) == 2056);
 TALLY_ASSERT(offsetof(struct tally_line, stations) == 8);
-TALLY_ASSERT(sizeof(struct tally_mail) == 33792);
+TALLY_ASSERT(sizeof(struct tally_mail) == 66560);
 TALLY_ASSERT(offsetof(struct tally_mail, answers) == 512);
-TALLY_ASSERT(offsetof(struct tally_mail, sums) == 1024);
+TALLY_ASSERT(offsetof(struct tally_mail, missing) == 1024);
+TALLY_ASSERT(offsetof(struct tally_mail, sums) == 33792);
 
 /* The kinds of step with mail. A report is from 0 to 0. */
 enum { TALLY_DELIVERY = 1, TALLY_MAIL_REPORT };
@@ -186,7 +200,7 @@ enum { TALLY_DELIVERY = 1, TALLY_MAIL_REPORT };
 uint64_t tally_mailbox_fresh(struct tally_line *line, struct tally_mail *mail, struct tally_map map);
 
 /* A step, a draw and a run answer, and leave what they are lent, as those of stations that meet. An answer that waits with a sum of 2^62 or
-   more is out of form (11). */
+   more, or with a missing number above TALLY_MOST_MISSING, is out of form (11). */
 uint64_t tally_mailbox_step(struct tally_line *line, struct tally_mail *mail, uint8_t kind, uint8_t sender, uint8_t receiver);
 uint64_t tally_mailbox_draw(struct tally_line *line, struct tally_mail *mail, uint16_t d);
 struct tally_run tally_mailbox_run(struct tally_line *line, struct tally_mail *mail, const uint16_t *draws, size_t count);

@@ -2,7 +2,7 @@
    steps until the desk has reported. All it keeps is the map and the net.
 
    The map is document 01's triangle, lot 42. It is run twice: draw by draw, with a line for each step, and in another order in one call,
-   which gives the same total. */
+   which gives the same total. Then a lamp has failed: the total is that of the other heads, and one reading is missing. */
 #include "tally.h"
 #include <inttypes.h>
 #include <stdio.h>
@@ -16,7 +16,7 @@ static const uint8_t stored[] = {
     3, 0, 12, 0, 36, 0, 0, 0, 42, 0, 0, 0, 0x8a, 0xff, 0xf3, 0xff,
 };
 
-/* One step, as its answer tells it. The sender's sum is what it answers or reports. */
+/* One step, as its answer tells it. What the sender holds, sum and missing number, is what it answers or reports. */
 static void print_step(const struct tally_rendezvous *net, uint64_t answer)
 {
     static const char *const kinds[] = {"", "wake", "pass", "answer", "report"};
@@ -26,7 +26,7 @@ static void print_step(const struct tally_rendezvous *net, uint64_t answer)
     if (kind != TALLY_REPORT)
         printf(" %u", receiver);
     if (kind == TALLY_ANSWER || kind == TALLY_REPORT)
-        printf(" %" PRIu64, net->stations[sender].held.sum);
+        printf(" %" PRIu64 " %u", net->stations[sender].held.sum, net->stations[sender].held.missing);
     printf("\n");
 }
 
@@ -44,9 +44,20 @@ static unsigned draw_by_draw(struct tally_rendezvous *net)
     return steps;
 }
 
-int main(void)
+/* All of it in one call. An accepted map opens a net. */
+static void run(struct tally_map map)
 {
     static const uint16_t draws[] = {0, 1, 0, 0, 0, 0, 0, 0};
+    struct tally_rendezvous net;
+
+    tally_rendezvous_fresh(&net, map);
+    struct tally_run run = tally_rendezvous_run(&net, draws, sizeof draws / sizeof draws[0]);
+    printf("run: steps %" PRIu64 ", at rest %" PRIu64 ", total %" PRIu64 ", missing %u, station 2 hung on %u\n", run.steps,
+           TALLY_VALUE(run.answer), net.stations[0].held.sum, net.stations[0].held.missing, net.stations[2].parent);
+}
+
+int main(void)
+{
     struct tally_map map;
     struct tally_rendezvous net;
 
@@ -62,9 +73,8 @@ int main(void)
     unsigned steps = draw_by_draw(&net);
     printf("lot %" PRIu32 " steps %u links %" PRIu64 "\n", map.lot, steps, links);
 
-    tally_rendezvous_fresh(&net, map);
-    struct tally_run run = tally_rendezvous_run(&net, draws, sizeof draws / sizeof draws[0]);
-    printf("run: steps %" PRIu64 ", at rest %" PRIu64 ", total %" PRIu64 ", station 2 hung on %u\n", run.steps, TALLY_VALUE(run.answer),
-           net.stations[0].held.sum, net.stations[2].parent);
+    run(map);
+    map.counts[1] = TALLY_NO_READING;
+    run(map);
     return 0;
 }

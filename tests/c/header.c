@@ -15,10 +15,12 @@ static int mail_waits(void)
 {
     mail.starts[1] = 1;
     mail.answers[1] = 3;
-    return TALLY_START_WAITS(&mail, 1, 0) && !TALLY_ANSWER_WAITS(&mail, 1, 0) && TALLY_ANSWER_WAITS(&mail, 1, 1);
+    mail.missing[1][1] = 0xa540;
+    return TALLY_START_WAITS(&mail, 1, 0) && !TALLY_ANSWER_WAITS(&mail, 1, 0) && TALLY_ANSWER_WAITS(&mail, 1, 1)
+        && TALLY_ANSWER_MISSING(&mail, 1, 1) == TALLY_MOST_MISSING;
 }
 
 int main(void)
 {
-    return answers_come_apart() && mail_waits() && tally_process_report(&asleep) == 13 ? 0 : 1;
+    return answers_come_apart() && mail_waits() && TALLY_NO_READING == UINT32_MAX && tally_process_report(&asleep) == 13 ? 0 : 1;
 }

@@ -1,11 +1,14 @@
 /* A net of stations with mail: steps, draws and runs on document 01's triangle, their values, what refusals leave, and how mailboxes are
-   read from words and written to words. The order: deliveries 0 1, 1 2, 0 2, 2 0, 2 1 with 11, 1 0 with 18; report 23. */
+   read from words and written to words; missing readings. The order: deliveries 0 1, 1 2, 0 2, 2 0, 2 1 with 11, 1 0 with 18; report 23. */
 #include "check.h"
 #include "triangle.h"
 #include <string.h>
 
 /* Sums on both sides of what the form allows. */
 static const uint64_t most = ((uint64_t)1 << 62) - 1, too_much = (uint64_t)1 << 62;
+
+/* Missing words: of the most that the form allows and of one more, with something in the bytes that are not looked at. */
+static const uint64_t idle = 0x0807060504030200, most_missing = 0x0807060504030240, too_many = 0x0807060504030241;
 
 struct net {
     struct tally_line line;
@@ -72,11 +75,12 @@ static void refusals(struct net *net)
     CHECK(is_fresh(net));
 }
 
-/* An answer waits with a sum that is out of form: every call refuses the net and leaves it. */
-static void out_of_form(struct net net)
+/* An answer waits with a sum or a missing number that is out of form: every call refuses the net and leaves it. */
+static void out_of_form(struct net net, uint64_t sum, uint64_t missing)
 {
     net.mail.answers[1] = 1;
-    net.mail.sums[1][0] = too_much;
+    net.mail.sums[1][0] = sum;
+    net.mail.missing[1][0] = missing;
     const struct tally_mail before = net.mail;
     CHECK(deliver(&net, 0, 1) == 11);
     CHECK(draw(&net, 0) == 11);
@@ -85,31 +89,72 @@ static void out_of_form(struct net net)
     CHECK(are_fresh(net.line.config, net.line.stations) && same_mail(&net.mail, &before));
 }
 
-/* Where both bits are set a start waits, and goes with both bits; the sum is not looked at, and stays. */
+/* In form are the most of both, whatever stands in the other bytes of a missing word; both are added, and their words stay. */
+static void most_is_taken(struct net net)
+{
+    net.mail.answers[1] = 1;
+    net.mail.sums[1][0] = most - 5;
+    net.mail.missing[1][0] = most_missing;
+    CHECK(TALLY_ANSWER_MISSING(&net.mail, 1, 0) == TALLY_MOST_MISSING);
+    CHECK(delivered(deliver(&net, 1, 0), 1, 0));
+    CHECK(is(&net.line.stations[0], held(most, TALLY_MOST_MISSING), 6, 0, 1, TALLY_ACTIVE));
+    CHECK(answers_wait(&net.mail, 0, 0, 0) && net.mail.sums[1][0] == most - 5 && net.mail.missing[1][0] == most_missing);
+}
+
+/* Where both bits are set a start waits, and goes with both bits; the words of the answer are not looked at, and stay. */
 static void both_bits(struct net net)
 {
     net.mail.answers[0] = 2;
     net.mail.sums[0][1] = too_much;
+    net.mail.missing[0][1] = too_many;
     CHECK(TALLY_START_WAITS(&net.mail, 0, 1) && !TALLY_ANSWER_WAITS(&net.mail, 0, 1));
     CHECK(delivered(deliver(&net, 0, 1), 0, 1));
-    CHECK(is(&net.line.stations[1], 7, 5, 0, 1, TALLY_ACTIVE));
-    CHECK(starts_wait(&net.mail, 4, 4, 0) && answers_wait(&net.mail, 0, 0, 0) && net.mail.sums[0][1] == too_much);
+    CHECK(is(&net.line.stations[1], held(7, 0), 5, 0, 1, TALLY_ACTIVE));
+    CHECK(starts_wait(&net.mail, 4, 4, 0) && answers_wait(&net.mail, 0, 0, 0));
+    CHECK(net.mail.sums[0][1] == too_much && net.mail.missing[0][1] == too_many);
 }
 
-/* A post replaces what the mailbox held: a start an answer, whose sum stays, and an answer a start. */
+/* A post replaces what the mailbox held: a start an answer, whose words stay, and an answer a start; an answer fills its words whole. */
 static void posts(struct net net)
 {
     net.mail.answers[1] = 4;
     net.mail.sums[1][2] = most;
+    net.mail.missing[1][2] = most_missing;
     CHECK(TALLY_ANSWER_WAITS(&net.mail, 1, 2) && !TALLY_START_WAITS(&net.mail, 1, 2));
     CHECK(delivered(deliver(&net, 0, 1), 0, 1));
-    CHECK(starts_wait(&net.mail, 4, 4, 0) && answers_wait(&net.mail, 0, 0, 0) && net.mail.sums[1][2] == most);
+    CHECK(starts_wait(&net.mail, 4, 4, 0) && answers_wait(&net.mail, 0, 0, 0));
+    CHECK(net.mail.sums[1][2] == most && net.mail.missing[1][2] == most_missing);
 
     net.mail.starts[1] = 1;
     net.mail.starts[2] = 2;
+    net.mail.missing[1][0] = idle;
+    net.line.stations[1].held.missing = 3;
     CHECK(delivered(deliver(&net, 2, 1), 2, 1));
-    CHECK(is(&net.line.stations[1], 7, 5, 0, 0, TALLY_FINISHED));
-    CHECK(starts_wait(&net.mail, 4, 0, 0) && answers_wait(&net.mail, 0, 1, 0) && net.mail.sums[1][0] == 7);
+    CHECK(is(&net.line.stations[1], held(7, 3), 5, 0, 0, TALLY_FINISHED));
+    CHECK(starts_wait(&net.mail, 4, 0, 0) && answers_wait(&net.mail, 0, 1, 0));
+    CHECK(net.mail.sums[1][0] == 7 && net.mail.missing[1][0] == 3);
+}
+
+/* Station 1 has no reading. Where an answer takes it out of form it hands that on; a single step is accepted, a run stops with 11. */
+static void missing(struct net net)
+{
+    CHECK(tally_mailbox_fresh(&net.line, &net.mail, lamp_failed) == 0);
+    CHECK(is(&net.line.stations[1], held(0, 1), 5, 0, 2, TALLY_ASLEEP));
+    struct net full = net;
+    CHECK(run(&net, 7).answer == 256);
+    CHECK(is(&net.line.stations[0], held(16, 1), 6, 0, 0, TALLY_FINISHED));
+
+    CHECK(delivered(deliver(&full, 0, 1), 0, 1));
+    full.mail.starts[0] = full.mail.starts[1] = 0;
+    full.mail.answers[2] = 2;
+    full.mail.missing[2][1] = TALLY_MOST_MISSING;
+    struct net stepped = full;
+    CHECK(delivered(deliver(&stepped, 2, 1), 2, 1) && deliver(&stepped, 1, 0) == 11);
+    struct tally_run stopped = run(&full, 7);
+    CHECK(stopped.answer == 11 && stopped.steps == 1);
+    CHECK(is(&full.line.stations[1], held(0, TALLY_MOST_MISSING + 1), 5, 0, 0, TALLY_FINISHED));
+    CHECK(answers_wait(&full.mail, 0, 1, 0) && full.mail.missing[1][0] == TALLY_MOST_MISSING + 1);
+    CHECK(same_mail(&stepped.mail, &full.mail));
 }
 
 /* Past k, from a station to itself, and beside no answer, any words may stand: no call but an opening looks at them or touches them. */
@@ -138,25 +183,25 @@ static void wave(struct net *net)
     const struct tally_station *stations = net->line.stations;
     const struct tally_mail *mail = &net->mail;
     CHECK(delivered(deliver(net, 0, 1), 0, 1));
-    CHECK(is(&stations[1], 7, 5, 0, 1, TALLY_ACTIVE));
+    CHECK(is(&stations[1], held(7, 0), 5, 0, 1, TALLY_ACTIVE));
     CHECK(starts_wait(mail, 4, 4, 0) && answers_wait(mail, 0, 0, 0));
     CHECK(delivered(draw(net, 1), 1, 2));
-    CHECK(is(&stations[2], 11, 3, 1, 1, TALLY_ACTIVE));
+    CHECK(is(&stations[2], held(11, 0), 3, 1, 1, TALLY_ACTIVE));
     CHECK(starts_wait(mail, 4, 0, 1) && answers_wait(mail, 0, 0, 0));
     CHECK(delivered(draw(net, 0), 0, 2));
-    CHECK(is(&stations[2], 11, 3, 1, 0, TALLY_FINISHED));
+    CHECK(is(&stations[2], held(11, 0), 3, 1, 0, TALLY_FINISHED));
     CHECK(starts_wait(mail, 0, 0, 1) && answers_wait(mail, 0, 0, 2) && mail->sums[2][1] == 11);
 
     struct tally_run part = run(net, 2);
     CHECK(part.answer == 0 && part.steps == 2);
-    CHECK(is(&stations[0], 5, 6, 0, 1, TALLY_ACTIVE) && is(&stations[1], 18, 5, 0, 0, TALLY_FINISHED));
+    CHECK(is(&stations[0], held(5, 0), 6, 0, 1, TALLY_ACTIVE) && is(&stations[1], held(18, 0), 5, 0, 0, TALLY_FINISHED));
     CHECK(starts_wait(mail, 0, 0, 0) && answers_wait(mail, 0, 1, 0) && mail->sums[1][0] == 18);
     struct tally_run rest = run(net, 7);
     CHECK(TALLY_NUMBER(rest.answer) == 0 && TALLY_VALUE(rest.answer) == 1 && rest.steps == 2);
-    CHECK(is(&stations[0], 23, 6, 0, 0, TALLY_FINISHED));
+    CHECK(is(&stations[0], held(23, 0), 6, 0, 0, TALLY_FINISHED));
     CHECK(draw(net, 0) == 14);
 
-    struct tally_mail due = {{0}, {0}, {{0}}};
+    static struct tally_mail due;
     due.sums[2][1] = 11;
     due.sums[1][0] = 18;
     CHECK(same_mail(mail, &due));
@@ -169,9 +214,12 @@ int main(void)
     CHECK(tally_mailbox_fresh(&net.line, &net.mail, triangle) == 0);
     CHECK(is_fresh(&net));
     refusals(&net);
-    out_of_form(net);
+    out_of_form(net, too_much, 0);
+    out_of_form(net, 0, too_many);
+    most_is_taken(net);
     both_bits(net);
     posts(net);
+    missing(net);
     strays(net);
     wave(&net);
     return 0;

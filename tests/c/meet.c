@@ -1,4 +1,4 @@
-/* A net of stations that meet: steps, draws and runs on document 01's triangle, their values, and what refusals leave. */
+/* A net of stations that meet: steps, draws and runs on document 01's triangle, their values, what refusals leave, and missing readings. */
 #include "check.h"
 #include "triangle.h"
 
@@ -18,6 +18,29 @@ static void refusals(struct tally_rendezvous *net)
     const uint16_t draws[1] = {0};
     struct tally_run run = tally_rendezvous_run(&out_of_form, draws, 1);
     CHECK(run.answer == 11 && run.steps == 0);
+    out_of_form = *net;
+    out_of_form.stations[2].held.missing = TALLY_MOST_MISSING + 1;
+    CHECK(tally_rendezvous_draw(&out_of_form, 0) == 11);
+    CHECK(is(&out_of_form.stations[2], held(11, TALLY_MOST_MISSING + 1), 3, 0, 2, TALLY_ASLEEP));
+}
+
+/* Station 1 has no reading: nothing is added to the sum, and one to the missing number. */
+static void missing(void)
+{
+    static const uint16_t draws[7] = {0};
+    struct tally_rendezvous net;
+    CHECK(tally_rendezvous_fresh(&net, lamp_failed) == 0);
+    CHECK(is(&net.stations[1], held(0, 1), 5, 0, 2, TALLY_ASLEEP));
+    struct tally_rendezvous full = net;
+    CHECK(tally_rendezvous_run(&net, draws, 7).answer == 256);
+    CHECK(is(&net.stations[0], held(16, 1), 0, 0, 0, TALLY_FINISHED));
+
+    /* with the most at station 0, the fifth step, answer 1 0, leaves the form: a run stops there, and the net reached is refused */
+    full.stations[0].held.missing = TALLY_MOST_MISSING;
+    struct tally_run stopped = tally_rendezvous_run(&full, draws, 7);
+    CHECK(stopped.answer == 11 && stopped.steps == 5);
+    CHECK(is(&full.stations[0], held(5, TALLY_MOST_MISSING + 1), 0, 0, 1, TALLY_ACTIVE));
+    CHECK(tally_rendezvous_draw(&full, 0) == 11);
 }
 
 int main(void)
@@ -31,10 +54,11 @@ int main(void)
     const uint16_t draws[7] = {0};
     struct tally_run run = tally_rendezvous_run(&net, draws, 4);
     CHECK(run.answer == 0 && run.steps == 4);
-    CHECK(is(&net.stations[2], 11, 0, 1, 0, TALLY_FINISHED) && is(&net.stations[1], 18, 0, 0, 0, TALLY_FINISHED));
+    CHECK(is(&net.stations[2], held(11, 0), 0, 1, 0, TALLY_FINISHED) && is(&net.stations[1], held(18, 0), 0, 0, 0, TALLY_FINISHED));
     run = tally_rendezvous_run(&net, draws, 7);
     CHECK(TALLY_NUMBER(run.answer) == 0 && TALLY_VALUE(run.answer) == 1 && run.steps == 1);
-    CHECK(is(&net.stations[0], 23, 0, 0, 0, TALLY_FINISHED));
+    CHECK(is(&net.stations[0], held(23, 0), 0, 0, 0, TALLY_FINISHED));
     CHECK(tally_rendezvous_draw(&net, 0) == 14);
+    missing();
     return 0;
 }

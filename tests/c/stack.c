@@ -41,7 +41,7 @@ static volatile uint64_t answer;
 
 static void take_start(void) { answer = tally_process_take_start(&process, 1); }
 static void send_start(void) { answer = tally_process_send_start(&process, 2); }
-static void take_answer(void) { answer = tally_process_take_answer(&process, (struct tally_aggregate){1}); }
+static void take_answer(void) { answer = tally_process_take_answer(&process, (struct tally_aggregate){1, 1}); }
 static void send_answer(void) { answer = tally_process_send_answer(&process); }
 static void report(void) { answer = tally_process_report(&process); }
 static void map_read(void) { answer = tally_map_read(&map, bytes, sizeof bytes); }
@@ -81,7 +81,7 @@ static void all_linked(void)
 {
     map = (struct tally_map){.k = TALLY_STATIONS, .lot = 42};
     for (unsigned i = 0; i < TALLY_STATIONS; i++) {
-        map.counts[i] = UINT32_MAX;
+        map.counts[i] = i % 2 ? TALLY_NO_READING : TALLY_NO_READING - 1;
         map.neighbours[i] = ~((uint64_t)1 << i);
     }
 }
@@ -94,7 +94,7 @@ static void spoil_line(void) { line.stations[TALLY_STATIONS - 1].waits = TALLY_S
 
 static void stations(void)
 {
-    const struct tally_process asleep = {5, {{1}, 6, 0, 2, TALLY_ASLEEP}}, ready = {5, {{1}, 0, 1, 0, TALLY_ACTIVE}};
+    const struct tally_process asleep = {5, {{1, 0}, 6, 0, 2, TALLY_ASLEEP}}, ready = {5, {{1, 0}, 0, 1, 0, TALLY_ACTIVE}};
     process = asleep;
     measure("tally_process_take_start", TALLY_PROCESS_STACK, take_start, spoil_process);
     process = asleep;

@@ -8,13 +8,14 @@ typedef struct tally_process process;
 /* What the fields of a record say; the bytes between them say nothing. */
 static int same(const process *a, const process *b)
 {
-    return a->own == b->own && a->station.held.sum == b->station.held.sum && a->station.unstarted == b->station.unstarted
-        && a->station.parent == b->station.parent && a->station.waits == b->station.waits && a->station.state == b->station.state;
+    return a->own == b->own && a->station.held.sum == b->station.held.sum && a->station.held.missing == b->station.held.missing
+        && a->station.unstarted == b->station.unstarted && a->station.parent == b->station.parent && a->station.waits == b->station.waits
+        && a->station.state == b->station.state;
 }
 
 static int is(const process *p, uint64_t sum, uint64_t unstarted, uint8_t parent, uint8_t waits, uint8_t state)
 {
-    const process due = {p->own, {{sum}, unstarted, parent, waits, state}};
+    const process due = {p->own, {{sum, 0}, unstarted, parent, waits, state}};
     return same(p, &due);
 }
 
@@ -48,7 +49,7 @@ static void wave(process s[3])
 /* All five events, with arguments in range. */
 static void all_refuse(const process *p, uint64_t number)
 {
-    const struct tally_aggregate one = {1};
+    const struct tally_aggregate one = {1, 0};
     process lent = *p;
     CHECK(tally_process_take_start(&lent, 1) == number);
     CHECK(tally_process_send_start(&lent, 1) == number);
@@ -60,8 +61,8 @@ static void all_refuse(const process *p, uint64_t number)
 
 static void refusals(const process *finished)
 {
-    const struct tally_aggregate most = {((uint64_t)1 << 62) - 1}, too_much = {(uint64_t)1 << 62};
-    const process active = {1, {{7}, 4, 0, 1, 1}};
+    const struct tally_aggregate most = {((uint64_t)1 << 62) - 1, 0}, too_much = {(uint64_t)1 << 62, 0};
+    const process active = {1, {{7, 0}, 4, 0, 1, 1}};
     process lent = active;
     CHECK(tally_process_take_start(&lent, TALLY_STATIONS) == 12);
     CHECK(tally_process_send_start(&lent, 255) == 12);
@@ -78,10 +79,35 @@ static void refusals(const process *finished)
     all_refuse(&lent, 11);
 }
 
+/* Missing numbers on both sides of their bound, in the answer and in the record. */
+static void missing(void)
+{
+    const struct tally_aggregate one = {11, 1}, most = {11, TALLY_MOST_MISSING}, too_many = {11, TALLY_MOST_MISSING + 1};
+    const process active = {1, {{7, 0}, 0, 0, 3, 1}};
+    process lent = active;
+    CHECK(tally_process_take_answer(&lent, too_many) == 12);
+    CHECK(same(&lent, &active));
+    CHECK(tally_process_take_answer(&lent, most) == 0);
+    const process full = {1, {{18, TALLY_MOST_MISSING}, 0, 0, 2, 1}};
+    CHECK(same(&lent, &full));
+
+    /* accepted, and out of form from then on, by the missing number alone */
+    CHECK(tally_process_take_answer(&lent, one) == 0);
+    const process over = {1, {{29, TALLY_MOST_MISSING + 1}, 0, 0, 1, 1}};
+    CHECK(same(&lent, &over));
+    all_refuse(&lent, 11);
+
+    const process last = {1, {{0, 1}, 0, 0, 0, 1}};
+    lent = last;
+    CHECK(tally_process_send_answer(&lent) == 0);
+    CHECK(lent.station.held.sum == 0 && lent.station.held.missing == 1);
+}
+
 int main(void)
 {
-    process s[3] = {{0, {{5}, 6, 0, 2, 1}}, {1, {{7}, 5, 0, 2, 0}}, {2, {{11}, 3, 0, 2, 0}}};
+    process s[3] = {{0, {{5, 0}, 6, 0, 2, 1}}, {1, {{7, 0}, 5, 0, 2, 0}}, {2, {{11, 0}, 3, 0, 2, 0}}};
     wave(s);
     refusals(&s[0]);
+    missing();
     return 0;
 }

@@ -5,16 +5,25 @@
 
 static const struct tally_map triangle = {3, 42, {5, 7, 11}, {6, 5, 3}};
 
-static inline int is(const struct tally_station *s, uint64_t sum, uint64_t set, uint8_t parent, uint8_t waits, uint8_t state)
+/* The same where station 1 has no reading. */
+static const struct tally_map lamp_failed = {3, 42, {5, TALLY_NO_READING, 11}, {6, 5, 3}};
+
+static inline struct tally_aggregate held(uint64_t sum, uint8_t missing)
 {
-    return s->held.sum == sum && s->unstarted == set && s->parent == parent && s->waits == waits && s->state == state;
+    return (struct tally_aggregate){sum, missing};
+}
+
+static inline int is(const struct tally_station *s, struct tally_aggregate due, uint64_t set, uint8_t parent, uint8_t waits, uint8_t state)
+{
+    return s->held.sum == due.sum && s->held.missing == due.missing && s->unstarted == set && s->parent == parent && s->waits == waits
+        && s->state == state;
 }
 
 static inline int are_fresh(struct tally_config config, const struct tally_station s[TALLY_STATIONS])
 {
-    return config.k == 3 && is(&s[0], 5, 6, 0, 2, TALLY_ACTIVE) && is(&s[1], 7, 5, 0, 2, TALLY_ASLEEP)
-        && is(&s[2], 11, 3, 0, 2, TALLY_ASLEEP) && is(&s[3], 0, 0, 0, 0, TALLY_ASLEEP)
-        && is(&s[TALLY_STATIONS - 1], 0, 0, 0, 0, TALLY_ASLEEP);
+    return config.k == 3 && is(&s[0], held(5, 0), 6, 0, 2, TALLY_ACTIVE) && is(&s[1], held(7, 0), 5, 0, 2, TALLY_ASLEEP)
+        && is(&s[2], held(11, 0), 3, 0, 2, TALLY_ASLEEP) && is(&s[3], held(0, 0), 0, 0, 0, TALLY_ASLEEP)
+        && is(&s[TALLY_STATIONS - 1], held(0, 0), 0, 0, 0, TALLY_ASLEEP);
 }
 
 static inline int made(uint64_t answer, uint8_t kind, uint8_t sender, uint8_t receiver)

@@ -1,26 +1,29 @@
-use super::stations::{are_in_form, below, fresh as fresh_stations, in_state, is_in_range, member};
+use super::stations::{are_in_form, below, fresh as fresh_stations, in_state, is_bounded, is_in_range, member};
 use super::Refusal;
+use conformance::model::aggregate::Aggregate;
 use conformance::model::mail::{DELIVERY, REPORT};
 use conformance::model::map::Map;
 use conformance::model::net::Step;
 use conformance::model::station::{Station, ACTIVE, ASLEEP, FINISHED};
-use conformance::model::SUM_LIMIT;
 
-/// The boxes are sets of receivers, one for each sender and kind of message, and the sums of the answers. A start goes
-/// before an answer, and boxes past k or of a station to itself are left alone, as in the library.
+/// The boxes are sets of receivers, one for each sender and kind of message, and what the answers bring: a sum, and a
+/// missing number in the lowest byte of a word. A start goes before an answer, and boxes past k or of a station to itself
+/// are left alone, as in the library.
 #[derive(Clone, PartialEq)]
 pub struct Mail {
     pub k: u8,
     pub stations: [Station; 64],
     pub starts: [u64; 64],
     pub answers: [u64; 64],
+    pub missing: [[u64; 64]; 64],
     pub sums: [[u64; 64]; 64],
 }
 
 pub fn fresh(map: &Map) -> Mail {
     let mut starts = [0; 64];
     starts[0] = map.neighbours[0];
-    Mail { k: map.k, stations: fresh_stations(map), starts, answers: [0; 64], sums: [[0; 64]; 64] }
+    let (missing, sums) = ([[0; 64]; 64], [[0; 64]; 64]);
+    Mail { k: map.k, stations: fresh_stations(map), starts, answers: [0; 64], missing, sums }
 }
 
 pub fn step(net: &mut Mail, step: Step) -> Result<Step, Refusal> {
@@ -58,7 +61,7 @@ pub fn run(net: &mut Mail, draws: &[u16]) -> Result<(usize, bool), usize> {
         let receiver = &net.stations[usize::from(step.receiver)];
         open.follow(step.receiver, receiver.state);
         // the only thing that a step may take out of form
-        if receiver.sum >= SUM_LIMIT {
+        if !is_bounded(receiver.held) {
             return Err(steps + 1);
         }
     }
@@ -73,12 +76,17 @@ impl Mail {
     fn has_bounded_answers(&self, sender: usize) -> bool {
         let mut answers = self.answers[sender] & !self.starts[sender] & below(self.k) & !(1 << sender);
         while answers != 0 {
-            if self.sums[sender][answers.trailing_zeros() as usize] >= SUM_LIMIT {
+            if !is_bounded(self.brought(sender, answers.trailing_zeros() as usize)) {
                 return false;
             }
             answers &= answers - 1;
         }
         true
+    }
+
+    /// What an answer brings.
+    fn brought(&self, sender: usize, receiver: usize) -> Aggregate {
+        Aggregate { sum: self.sums[sender][receiver], missing: self.missing[sender][receiver] as u8 }
     }
 
     fn is_allowed(&self, Step { kind, sender, receiver }: Step) -> bool {
@@ -109,7 +117,8 @@ impl Mail {
         } else {
             station.waits = station.waits.saturating_sub(1);
             if self.starts[from] & bit == 0 {
-                station.sum += self.sums[from][to];
+                station.held.sum += self.sums[from][to];
+                station.held.missing += self.missing[from][to] as u8;
             }
         }
         self.starts[from] &= !bit;
@@ -122,9 +131,10 @@ impl Mail {
     fn post_answer(&mut self, sender: usize) {
         let station = &mut self.stations[sender];
         station.state = FINISHED;
-        let (parent, sum) = (station.parent, station.sum);
+        let (parent, Aggregate { sum, missing }) = (station.parent, station.held);
         self.starts[sender] &= !(1 << parent);
         self.answers[sender] |= 1 << parent;
+        self.missing[sender][usize::from(parent)] = missing.into();
         self.sums[sender][usize::from(parent)] = sum;
     }
 }

@@ -1,10 +1,9 @@
-use super::stations::{are_in_form, fresh as fresh_stations, in_state, is_in_range, member};
+use super::stations::{are_in_form, fresh as fresh_stations, in_state, is_bounded, is_in_range, member};
 use super::Refusal;
 use conformance::model::map::Map;
 use conformance::model::meet::{Meet, ANSWER, PASS, REPORT, WAKE};
 use conformance::model::net::Step;
 use conformance::model::station::{Station, ACTIVE, ASLEEP, FINISHED};
-use conformance::model::SUM_LIMIT;
 
 pub fn fresh(map: &Map) -> Meet {
     Meet { k: map.k, stations: fresh_stations(map) }
@@ -44,7 +43,7 @@ pub fn run(net: &mut Meet, draws: &[u16]) -> Result<(usize, bool), usize> {
         make(net, step);
         awake.follow(step);
         // the only thing that a step may take out of form
-        if net.stations[usize::from(step.receiver)].sum >= SUM_LIMIT {
+        if !is_bounded(net.stations[usize::from(step.receiver)].held) {
             return Err(steps + 1);
         }
     }
@@ -151,9 +150,10 @@ fn make(net: &mut Meet, Step { kind, sender, receiver }: Step) {
     }
     from.state = FINISHED;
     if kind == ANSWER {
-        let sum = from.sum;
+        let given = from.held;
         let to = &mut net.stations[usize::from(receiver)];
-        to.sum += sum;
+        to.held.sum += given.sum;
+        to.held.missing += given.missing;
         to.waits = to.waits.saturating_sub(1);
     }
 }

@@ -1,16 +1,18 @@
 //! What both kinds of net share.
 
+use conformance::model::aggregate::{Aggregate, MOST_MISSING, NO_READING, SUM_LIMIT};
 use conformance::model::map::Map;
 use conformance::model::net::Step;
 use conformance::model::station::{Station, ACTIVE, ASLEEP, FINISHED};
-use conformance::model::SUM_LIMIT;
 
 pub fn fresh(map: &Map) -> [Station; 64] {
     let mut stations = [Station::default(); 64];
     for (station, (&count, &set)) in stations.iter_mut().zip(map.counts.iter().zip(&map.neighbours)).take(map.k.into())
     {
+        let is_missing = count == NO_READING;
+        let held = Aggregate { sum: if is_missing { 0 } else { count.into() }, missing: is_missing.into() };
         let waits = set.count_ones() as u8;
-        *station = Station { sum: count.into(), unstarted: set, parent: 0, waits, state: ASLEEP };
+        *station = Station { held, unstarted: set, parent: 0, waits, state: ASLEEP };
     }
     stations[0].state = ACTIVE;
     stations
@@ -27,9 +29,13 @@ pub fn are_in_form(k: u8, stations: &[Station; 64]) -> bool {
             && station.unstarted & !below_k == 0
             && station.unstarted >> own & 1 == 0
             && station.waits <= 64
-            && station.sum < SUM_LIMIT
+            && is_bounded(station.held)
             && (own == 0 || usize::from(station.parent) != own)
     })
+}
+
+pub fn is_bounded(held: Aggregate) -> bool {
+    held.sum < SUM_LIMIT && held.missing <= MOST_MISSING
 }
 
 /// All stations of k, which is not 0.

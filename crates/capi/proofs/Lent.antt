@@ -126,7 +126,7 @@ module _ {m : ℕ} (Ns : List (Argument m)) where
 
 -- the words of the mailboxes, lent beside the stations: the net left is made of both
 abbrev mailboxes : {m : ℕ} → Beside (suc m)
-mailboxes = words tt w64 4224
+mailboxes = words tt w64 8320
 
 module _ {m : ℕ} (Ns : List (Argument (suc m))) where
   abbrev MailRule : Type 0 → Type 0

@@ -9,13 +9,13 @@ use lib.ListN.{length, getD}
 use Rattle.topology.specs.Answer.{accepted}
 use Rattle.topology.specs.Acceptance.{linked}
 use Rattle.linemap.specs.declared.Map.{Map}
-use Rattle.linemap.specs.Maps.{acceptance, linkCount, totalCount}
+use Rattle.linemap.specs.Maps.{acceptance, linkCount, totals}
 use Rattle.linemap.specs.RoundTrip.{Fits}
 use Rattle.schedule.specs.declared.Step.{Step}
 use Rattle.schedule.specs.Listing.{step}
 use Rattle.schedule.specs.Draws.{stepOn}
 use Rattle.schedule.specs.Calls.{Call}
-use Rattle.demand.specs.Kinds.{Kind, meeting, mailing, isReport, deskSum, made, left, reports, messages}
+use Rattle.demand.specs.Kinds.{Kind, meeting, mailing, isReport, deskHeld, made, left, reports, messages}
 
 -- what holds on one map after one list of calls
 pub record Holds (K : Kind) (m : Map) (calls : List Call) : Type 0 where
@@ -31,8 +31,9 @@ pub record Holds (K : Kind) (m : Map) (calls : List Call) : Type 0 where
   pub report-full : (reports K m calls ≡ 1) ↔ (length (made K m calls) ≡ 2 * linkCount m + 1)
   -- "Then the report was the last of them,"
   pub report-last : reports K m calls ≡ 1 → isReport K (getD (made K m calls) (length (made K m calls) - 1) (step 0 0 0)) ≡ true
-  -- "the number reported is the sum of all the map's counts,"
-  pub number-reported : reports K m calls ≡ 1 → deskSum K m (left K m calls) ≡ totalCount m
+  -- "the number reported is the sum of all the map's counts,": "the sum over heads with a reading, together with how many had none, in every
+  -- order of steps" (document 02, request 1)
+  pub number-reported : reports K m calls ≡ 1 → deskHeld K m (left K m calls) ≡ totals m
   -- "and each link has carried exactly one message each way."
   pub each-way : reports K m calls ≡ 1 → (i j : ℕ) → linked (m .k) (m .neighbours) i j ≡ true
       → (messages K m calls i j ≡ 1) × (messages K m calls j i ≡ 1)

@@ -7,10 +7,10 @@ use Prim.Native.Nat.{ℕ, _+_, _*_, _%_, _^_, _≤_, _<_, min}
 use lib.Dec.{eqb}
 use lib.ListN.{length, getD}
 use Rattle.refusal.specs.declared.Refusal.the-variants.{OutOfRange, NotAllowed, NothingAllowed}
-use Rattle.stations.specs.Stations.{unfinishedSum}
+use Rattle.stations.specs.Stations.{unfinished}
 use Rattle.topology.specs.Answer.{accepted}
 use Rattle.linemap.specs.declared.Map.{Map}
-use Rattle.linemap.specs.Maps.{acceptance, linkCount, totalCount}
+use Rattle.linemap.specs.Maps.{acceptance, linkCount, totals}
 use Rattle.linemap.specs.RoundTrip.{Fits}
 use Rattle.linemap.specs.Reading.{reading}
 use Rattle.schedule.specs.declared.Step.{Step}
@@ -74,7 +74,7 @@ pub record OfKind (K : Kind) : Type 0 where
 
 -- "Before the report the sums of stations not finished add up to the map's total" (Stations that meet)
 abbrev pub Conserved : Type 0
-Conserved = OnEveryMap (λ m calls. reports meeting m calls ≡ 0 → unfinishedSum (m .k) (meeting .station (left meeting m calls)) ≡ totalCount m)
+Conserved = OnEveryMap (λ m calls. reports meeting m calls ≡ 0 → unfinished (m .k) (meeting .station (left meeting m calls)) ≡ totals m)
 
 -- a map that was read fits its fields and is accepted, so all of this holds of it
 abbrev pub Read : Type 0

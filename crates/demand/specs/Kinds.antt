@@ -5,7 +5,8 @@ use mathlib.Core.List.{List}
 use Prim.Native.Nat.{ℕ}
 use lib.Dec.{eqb}
 use lib.ListN.{length}
-use Rattle.aggregate.specs.Aggregate.{rootOf, sumOf}
+use Rattle.aggregate.specs.declared.Aggregate.{Aggregate}
+use Rattle.aggregate.specs.Aggregate.{rootOf}
 use Rattle.station.specs.declared.Station.{Station}
 use Rattle.linemap.specs.declared.Map.{Map}
 use Rattle.linemap.specs.Maps.{configOf}
@@ -50,9 +51,9 @@ module _ (K : Kind) where
   abbrev pub isMessage : ℕ → ℕ → Step → Bool
   isMessage i j s = not (isReport s) && eqb i (s .sender) && eqb j (s .receiver)
 
-  -- "the desk's sum"
-  abbrev pub deskSum : Map → K .Net → ℕ
-  deskSum m net = sumOf (K .station net (rootOf (configOf m)) .held)
+  -- "the desk's sum", and its missing number
+  abbrev pub deskHeld : Map → K .Net → Aggregate
+  deskHeld m net = K .station net (rootOf (configOf m)) .held
 
   module _ (m : Map) (calls : List Call) where
     -- "The steps made, in order", by a list that "starts from the fresh net"

@@ -66,20 +66,20 @@ row given expected = record { given = given; expected = expected }
 -- the thirteen, in document 01's order (Edges)
 abbrev pub table : List Row
 table =
-    -- "k = 1, count 9, one draw: report 9, 1 step, 0 links"
-    row (runs (zeros 1) (mapOf (9 ∷ []) (0 ∷ []))) (lines ("report 0 9" ∷ "lot 42 steps 1 links 0" ∷ []))
+    -- "k = 1, count 9, one draw: report 9, 1 step, 0 links"; answer and report lines end with the missing number (document 02, request 1)
+    row (runs (zeros 1) (mapOf (9 ∷ []) (0 ∷ []))) (lines ("report 0 9 0" ∷ "lot 42 steps 1 links 0" ∷ []))
     -- "k = 2, link 0–1, counts 3 and 4: 7 in 3 steps"
     ∷ row (runs (zeros 3) (mapOf (3 ∷ 4 ∷ []) (2 ∷ 1 ∷ [])))
-    (lines ("wake 0 1" ∷ "answer 1 0 4" ∷ "report 0 7" ∷ "lot 42 steps 3 links 1" ∷ []))
+    (lines ("wake 0 1" ∷ "answer 1 0 4 0" ∷ "report 0 7 0" ∷ "lot 42 steps 3 links 1" ∷ []))
     -- "The triangle above": seven draws of 0, check word 4294180746
     ∷ row (input (flatMap (bytes 2) (zeros 7) ++ bodyOf triangle ++ bytes 4 4294180746))
-    (lines ("wake 0 1" ∷ "wake 0 2" ∷ "pass 1 2" ∷ "pass 2 1" ∷ "answer 1 0 7" ∷ "answer 2 0 11" ∷ "report 0 23" ∷ "lot 42 steps 7 links 3" ∷ []))
+    (lines ("wake 0 1" ∷ "wake 0 2" ∷ "pass 1 2" ∷ "pass 2 1" ∷ "answer 1 0 7 0" ∷ "answer 2 0 11 0" ∷ "report 0 23 0" ∷ "lot 42 steps 7 links 3" ∷ []))
     -- "The triangle with draws 0, 1, 0, 0, 0, 0, 0: wake 0 1, wake 1 2, pass 0 2, pass 2 0, answer 2 1 11, answer 1 0 18, report 0 23"
     ∷ row (runs (0 ∷ 1 ∷ zeros 5) triangle)
-    (lines ("wake 0 1" ∷ "wake 1 2" ∷ "pass 0 2" ∷ "pass 2 0" ∷ "answer 2 1 11" ∷ "answer 1 0 18" ∷ "report 0 23" ∷ "lot 42 steps 7 links 3" ∷ []))
+    (lines ("wake 0 1" ∷ "wake 1 2" ∷ "pass 0 2" ∷ "pass 2 0" ∷ "answer 2 1 11 0" ∷ "answer 1 0 18 0" ∷ "report 0 23 0" ∷ "lot 42 steps 7 links 3" ∷ []))
     -- "Six zero draws on it: 6 steps, no report"
     ∷ row (runs (zeros 6) triangle)
-    (lines ("wake 0 1" ∷ "wake 0 2" ∷ "pass 1 2" ∷ "pass 2 1" ∷ "answer 1 0 7" ∷ "answer 2 0 11" ∷ "lot 42 steps 6 links 3" ∷ []))
+    (lines ("wake 0 1" ∷ "wake 0 2" ∷ "pass 1 2" ∷ "pass 2 1" ∷ "answer 1 0 7 0" ∷ "answer 2 0 11 0" ∷ "lot 42 steps 6 links 3" ∷ []))
     -- "No draws: 0 steps"
     ∷ row (runs [] triangle) (lines ("lot 42 steps 0 links 3" ∷ []))
     -- "Set 1 for k = 1: 8"

@@ -1,6 +1,7 @@
-// The mailboxes of a net with mail (document 01, "Stations with mail"), in 4,224 words that the caller lends: for each sender the set of the
-// receivers to which a start waits (words 0 to 63), the set of those to which an answer waits (64 to 127), and the sums of the answers (from
-// 128 on, that from s to r at 128 + s × 64 + r). A mailbox itself is an enum: what is read from one place and written to one.
+// The mailboxes of a net with mail (document 01, "Stations with mail"), in 8,320 words that the caller lends: for each sender the set of the
+// receivers to which a start waits (words 0 to 63), the set of those to which an answer waits (64 to 127), then the missing numbers of the
+// answers (that from s to r at 128 + s × 64 + r), then their sums (at 4224 + s × 64 + r). A mailbox itself is an enum: what is read from one
+// place and written to one.
 use aggregate::Aggregate;
 use aggregate::Config;
 ghost use mathlib.Core.Path.{_≡_};
@@ -35,7 +36,7 @@ pub fn is_bounded(t: Config, b: Mailbox) -> bool
 }
 
 // What the mailbox between two stations below 64 holds.
-fn look(boxes: &[u64; 4224], from: u8, to: u8) -> Mailbox
+fn look(boxes: &[u64; 8320], from: u8, to: u8) -> Mailbox
     requires { ⌜ (from < 64) × (to < 64) ⌝ }
     ensures { λ r. ⌜ r ≡ Mail.boxAt (now (boxes .entry)) from to ⌝ }
 {
@@ -46,14 +47,16 @@ fn look(boxes: &[u64; 4224], from: u8, to: u8) -> Mailbox
         return Mailbox::Full(Message::Start);
     }
     if bitset::contains(answers, to) {
-        let sum = boxes[128 + at * 64 + (to as usize)];
-        return Mailbox::Full(Message::Answer(Aggregate { sum: sum }));
+        let missing = boxes[128 + at * 64 + (to as usize)];
+        let sum = boxes[4224 + at * 64 + (to as usize)];
+        let v = aggregate::from_words(sum, missing);
+        return Mailbox::Full(Message::Answer(v));
     }
     Mailbox::Empty
 }
 
 // What the mailbox from one station to another holds; other numbers have none.
-pub fn box_at(boxes: &[u64; 4224], from: u8, to: u8) -> Mailbox
+pub fn box_at(boxes: &[u64; 8320], from: u8, to: u8) -> Mailbox
     ensures { λ r. ⌜ r ≡ Writing.boxRead (now (boxes .entry)) from to ⌝ }
 {
     if (from < 64) & (to < 64) {
@@ -64,14 +67,14 @@ pub fn box_at(boxes: &[u64; 4224], from: u8, to: u8) -> Mailbox
 }
 
 // No mail.
-pub fn clear(boxes: &mut [u64; 4224])
+pub fn clear(boxes: &mut [u64; 8320])
     ensures { λ _. ⌜ now (boxes .exit) ≡ Mail.noMail ⌝ }
 {
-    *boxes = [0u64; 4224];
+    *boxes = [0u64; 8320];
 }
 
 // Other sets for a sender.
-fn put_sets(boxes: &mut [u64; 4224], from: u8, starts: u64, answers: u64)
+fn put_sets(boxes: &mut [u64; 8320], from: u8, starts: u64, answers: u64)
     requires { ⌜ from < 64 ⌝ }
     ensures { λ _. ⌜ now (boxes .exit) ≡ Mail.withSets (now (boxes .entry)) from starts answers ⌝ }
 {
@@ -81,7 +84,7 @@ fn put_sets(boxes: &mut [u64; 4224], from: u8, starts: u64, answers: u64)
 }
 
 // Whether a start waits between two stations, and whether an answer does.
-fn put_waiting(boxes: &mut [u64; 4224], from: u8, to: u8, start: bool, answer: bool)
+fn put_waiting(boxes: &mut [u64; 8320], from: u8, to: u8, start: bool, answer: bool)
     requires { ⌜ from < 64 ⌝ }
     ensures { λ _. ⌜ now (boxes .exit) ≡ Mail.withWaiting (now (boxes .entry)) from to start answer ⌝ }
 {
@@ -91,16 +94,19 @@ fn put_waiting(boxes: &mut [u64; 4224], from: u8, to: u8, start: bool, answer: b
     put_sets(boxes, from, starts, answers);
 }
 
-// An answer with its sum.
-fn store_answer(boxes: &mut [u64; 4224], from: u8, to: u8, sum: u64)
+// An answer with what it brings.
+fn store_answer(boxes: &mut [u64; 8320], from: u8, to: u8, v: Aggregate)
     requires { ⌜ (from < 64) × (to < 64) ⌝ }
-    ensures { λ _. ⌜ now (boxes .exit) ≡ Mail.withAnswer (now (boxes .entry)) from to sum ⌝ }
+    ensures { λ _. ⌜ now (boxes .exit) ≡ Mail.withAnswer (now (boxes .entry)) from to v ⌝ }
 {
     put_waiting(boxes, from, to, false, true);
-    boxes[128 + (from as usize) * 64 + (to as usize)] = sum;
+    let missing = aggregate::missing_word(v);
+    let sum = aggregate::sum_of(v);
+    boxes[128 + (from as usize) * 64 + (to as usize)] = missing;
+    boxes[4224 + (from as usize) * 64 + (to as usize)] = sum;
 }
 
-fn store_message(boxes: &mut [u64; 4224], from: u8, to: u8, m: Message)
+fn store_message(boxes: &mut [u64; 8320], from: u8, to: u8, m: Message)
     requires { ⌜ (from < 64) × (to < 64) ⌝ }
     ensures { λ _. ⌜ now (boxes .exit) ≡ Mail.withMessage (now (boxes .entry)) from to m ⌝ }
 {
@@ -109,12 +115,12 @@ fn store_message(boxes: &mut [u64; 4224], from: u8, to: u8, m: Message)
             put_waiting(boxes, from, to, true, false);
         }
         Message::Answer(v) => {
-            store_answer(boxes, from, to, v.sum);
+            store_answer(boxes, from, to, v);
         }
     }
 }
 
-fn store(boxes: &mut [u64; 4224], from: u8, to: u8, b: Mailbox)
+fn store(boxes: &mut [u64; 8320], from: u8, to: u8, b: Mailbox)
     requires { ⌜ (from < 64) × (to < 64) ⌝ }
     ensures { λ _. ⌜ now (boxes .exit) ≡ Mail.withBox (now (boxes .entry)) from to b ⌝ }
 {
@@ -129,7 +135,7 @@ fn store(boxes: &mut [u64; 4224], from: u8, to: u8, b: Mailbox)
 }
 
 // What the mailbox from one station to another shall hold; other numbers have none.
-pub fn put_box(boxes: &mut [u64; 4224], from: u8, to: u8, b: Mailbox)
+pub fn put_box(boxes: &mut [u64; 8320], from: u8, to: u8, b: Mailbox)
     ensures { λ _. ⌜ now (boxes .exit) ≡ Writing.boxWritten (now (boxes .entry)) from to b ⌝ }
 {
     if (from < 64) & (to < 64) {
@@ -137,7 +143,7 @@ pub fn put_box(boxes: &mut [u64; 4224], from: u8, to: u8, b: Mailbox)
     }
 }
 
-fn store_starts(boxes: &mut [u64; 4224], from: u8, stations: u64)
+fn store_starts(boxes: &mut [u64; 8320], from: u8, stations: u64)
     requires { ⌜ from < 64 ⌝ }
     ensures { λ _. ⌜ now (boxes .exit) ≡ Mail.startsPosted (now (boxes .entry)) from stations ⌝ }
 {
@@ -148,7 +154,7 @@ fn store_starts(boxes: &mut [u64; 4224], from: u8, stations: u64)
 }
 
 // A start, posted from a station to every one in the set; other numbers have no mailboxes.
-pub fn post_starts(boxes: &mut [u64; 4224], from: u8, stations: u64)
+pub fn post_starts(boxes: &mut [u64; 8320], from: u8, stations: u64)
     ensures { λ _. ⌜ now (boxes .exit) ≡ Writing.startsWritten (now (boxes .entry)) from stations ⌝ }
 {
     if from < 64 {

@@ -9,6 +9,7 @@ use lib.ListN.{length, set, length-set}
 use lib.Seq.{getD-set-same, getD-set-other}
 use lib.Dec.{eqb}
 use borrow.Author.Tests.{eqb-true, eq-eqb, ne-eqb}
+use Rattle.aggregate.specs.Aggregate.{missingOf}
 use Rattle.finite.proofs.Cases.{by-bool, by-eq, and-both}
 use Rattle.bitset.specs.Set.{member, without}
 use Rattle.bitset.proofs.Laws.{member-without}
@@ -25,7 +26,7 @@ use Rattle.mailbox.specs.Delivery.{taken, boxesAfter, mustAnswer, boxesS
 -- the lists of a net have the arrays' lengths
 pub record Shaped (net : Net) : Type 0 where
   pub stations : length (net .stations) ≡ 64
-  pub boxes : length (net .boxes) ≡ 4224
+  pub boxes : length (net .boxes) ≡ 8320
 
 -- every station after one is written: that one, or as it was
 pub station-after-set : (stations : List Station) (i : ℕ) (s : Station) → i < length stations → (x : ℕ)
@@ -35,11 +36,11 @@ station-after-set stations i s h x =
     (λ e. rw (e, eq-eqb i i refl) (getD-set-same stations i s blank h))
     (λ ne. rw (ne-eqb x i ne) (getD-set-other stations i x s blank ne))
 
-module _ (boxes : List ℕ) (long : length boxes ≡ 4224) (from to : ℕ) (hf : from < 64) (ht : to < 64) (receiver : Station) where
-  pub length-boxes-after : length (boxesAfter boxes from to receiver) ≡ 4224
+module _ (boxes : List ℕ) (long : length boxes ≡ 8320) (from to : ℕ) (hf : from < 64) (ht : to < 64) (receiver : Station) where
+  pub length-boxes-after : length (boxesAfter boxes from to receiver) ≡ 8320
   unfolding boxesAfter
   length-boxes-after =
-      let emptied : length (withBox boxes from to Empty) ≡ 4224 = length-box boxes from to Empty ∙ long in
+      let emptied : length (withBox boxes from to Empty) ≡ 8320 = length-box boxes from to Empty ∙ long in
       by-bool (eqb (receiver .state) asleep)
       (λ e. rw e (length-starts (withBox boxes from to Empty) to (without from (receiver .unstarted)) ∙ emptied))
       (λ e. rw e emptied)
@@ -51,7 +52,7 @@ module _ (boxes : List ℕ) (long : length boxes ≡ 4224) (from to : ℕ) (hf :
       (cond (eqb x from && eqb y to) Empty (boxAt boxes x y))
   unfolding boxesAfter
   box-after-taking x y hx hy =
-      let emptied = box-after boxes long from hf x hx to ht y hy Empty in
+      let emptied = box-after boxes long from hf x hx to ht y hy Empty tt in
       let set = receiver .unstarted in
       by-bool (eqb (receiver .state) asleep)
       (λ e.
@@ -68,7 +69,7 @@ module _ (net : Net) (shaped : Shaped net) (from to : ℕ) (hf : from < 64) (ht 
   abbrev boxes : List ℕ
   boxes = boxesAfter (net .boxes) from to (station net to)
 
-  long : length boxes ≡ 4224
+  long : length boxes ≡ 8320
   long = length-boxes-after (net .boxes) (shaped .boxes) from to hf ht (station net to)
 
   pub delivered-config : delivered net from to .config ≡ net .config
@@ -92,13 +93,13 @@ module _ (net : Net) (shaped : Shaped net) (from to : ℕ) (hf : from < 64) (ht 
       (λ e. rw e (station-after-set (net .stations) to (ended receiver) below x))
       (λ e. rw e (station-after-set (net .stations) to receiver below x))
 
-  module _ (low : receiver .parent < 64) (x y : ℕ) (hx : x < 64) (hy : y < 64) where
+  module _ (low : receiver .parent < 64) (byte : missingOf (receiver .held) < 256) (x y : ℕ) (hx : x < 64) (hy : y < 64) where
     answered : boxAt (delivered net from to .boxes) x y
         ≡ cond (eqb x to && (mustAnswer (net .config) to receiver && eqb y (receiver .parent))) (Full (Answer (receiver .held))) (boxAt boxes x y)
     unfolding delivered boxesSettled withBox
     answered =
         by-bool (mustAnswer (net .config) to receiver)
-        (λ e. rw e (box-after boxes long to ht x hx (receiver .parent) low y hy (Full (Answer (receiver .held)))))
+        (λ e. rw e (box-after boxes long to ht x hx (receiver .parent) low y hy (Full (Answer (receiver .held))) byte))
         (λ e. rw (e, and-false))
 
     -- the delivered mailbox is empty; a receiver that must answer has posted its sum to its parent, and one that was asleep a start to every

@@ -37,13 +37,13 @@ too-early = refl
 abbrev woken : Net
 woken = stepOn rules triangle (step delivery 0 1) .net
 
-wake-posts : (station woken 1 ≡ record { held = record { sum = 7 }; unstarted = 5; parent = 0; waits = 1; state = 1 })
+wake-posts : (station woken 1 ≡ record { held = record { sum = 7; missing = 0 }; unstarted = 5; parent = 0; waits = 1; state = 1 })
     × (boxAt (woken .boxes) 0 1 ≡ Empty) × (boxAt (woken .boxes) 1 2 ≡ Full Start) × (boxAt (woken .boxes) 1 0 ≡ Empty)
 unfolding stepOn wellFormed areWellFormed areBounded form.wellFormed allBelow inRange mayStep netAfter delivered boxesSettled boxesAfter freshNet freshStations freshStation tabulate each boxAt withBox withMessage withAnswer withWaiting put bitIf startsPosted union minus member membersBelow size without within rootOf valid bounded gathered
 wake-posts = (refl, refl, refl, refl)
 
 -- a station with no other neighbour answers as it wakes
-answers-at-once : boxAt (stepOn rules pair (step delivery 0 1) .net .boxes) 1 0 ≡ Full (Answer (record { sum = 4 }))
+answers-at-once : boxAt (stepOn rules pair (step delivery 0 1) .net .boxes) 1 0 ≡ Full (Answer (record { sum = 4; missing = 0 }))
 unfolding stepOn wellFormed areWellFormed areBounded form.wellFormed allBelow inRange mayStep netAfter delivered boxesSettled boxesAfter freshNet freshStations freshStation tabulate each boxAt withBox withMessage withAnswer withWaiting put bitIf startsPosted union minus member membersBelow size without within rootOf valid bounded gathered
 answers-at-once = refl
 
@@ -51,6 +51,6 @@ answers-at-once = refl
 abbrev whole-run : RunOutcome Net
 whole-run = runOn rules triangle (0 ∷ 0 ∷ 0 ∷ 0 ∷ 0 ∷ 0 ∷ 0 ∷ 0 ∷ [])
 
-total : (whole-run .steps ≡ 7) × (whole-run .rest ≡ true) × (station (whole-run .net) 0 .held ≡ record { sum = 23 }) × (drawOn rules (whole-run .net) 0 .number ≡ 14)
+total : (whole-run .steps ≡ 7) × (whole-run .rest ≡ true) × (station (whole-run .net) 0 .held ≡ record { sum = 23; missing = 0 }) × (drawOn rules (whole-run .net) 0 .number ≡ 14)
 unfolding runOn runMade runNet stopped drawOn picked listed quiescent isEmpty select candidates range listing.numbersFrom flatMap allowed wellFormed areWellFormed areBounded form.wellFormed allBelow inRange mayStep netAfter delivered reported boxesSettled boxesAfter freshNet freshStations freshStation tabulate each boxAt withBox withMessage withAnswer withWaiting put bitIf startsPosted union minus member membersBelow size without within rootOf valid bounded gathered joined
 total = (refl, refl, refl, refl)

@@ -14,6 +14,7 @@ use Rattle.finite.proofs.Below.{all-below}
 use Rattle.bitset.specs.Set.{member, without}
 use Rattle.aggregate.specs.declared.Config.{Config}
 use Rattle.aggregate.specs.Aggregate.{bounded}
+use Rattle.aggregate.proofs.Laws.{bounded-parts}
 use Rattle.station.specs.declared.Station.{Station}
 use Rattle.station.specs.Events.{asleep, active, startedBy, ended}
 use Rattle.station.specs.Form as form
@@ -28,7 +29,7 @@ use Rattle.mail.specs.declared.Message.the-variants.{Start, Answer}
 use Rattle.mail.specs.declared.Mailbox.{Mailbox}
 use Rattle.mail.specs.declared.Mailbox.the-variants.{Empty, Full}
 use Rattle.mail.specs.Mail.{mailboxBounded, boxAt, withBox, startsPosted}
-use Rattle.mail.proofs.Laws.{length-starts, length-box, box-after-starts, box-after}
+use Rattle.mail.proofs.Laws.{FitsWord, length-starts, length-box, box-after-starts, box-after}
 use Rattle.mailbox.specs.Net.{Net, station, areBounded, wellFormed}
 use Rattle.mailbox.specs.Delivery.{takesFrom, awakened, taken, boxesAfter, boxesSettled, boxesDelivered, mustAnswer, delivered, reported}
 use Rattle.mailbox.specs.Rules.{delivery, netAfter, rules}
@@ -37,21 +38,21 @@ use Rattle.mailbox.proofs.Laws.{form-parts, k-most, formed-at, bounded-
 
 -- a mailbox after a delivery is as it was, empty, or holds a start
 module _ (P : Mailbox → Type 0) (x y : ℕ) (hx : x < 64) (hy : y < 64) where
-  put-holds : (boxes : List ℕ) → length boxes ≡ 4224 → (s r : ℕ) → s < 64 → r < 64 → (b : Mailbox) → P b → P (boxAt boxes x y)
-      → P (boxAt (withBox boxes s r b) x y)
-  put-holds boxes long s r hs hr b new old =
-      subst P (sym (box-after boxes long s hs x hx r hr y hy b)) (by-bool (eqb x s && eqb y r) (λ t. rw t new) (λ f. rw f old))
+  put-holds : (boxes : List ℕ) → length boxes ≡ 8320 → (s r : ℕ) → s < 64 → r < 64 → (b : Mailbox) → FitsWord b → P b
+      → P (boxAt boxes x y) → P (boxAt (withBox boxes s r b) x y)
+  put-holds boxes long s r hs hr b fits new old =
+      subst P (sym (box-after boxes long s hs x hx r hr y hy b fits)) (by-bool (eqb x s && eqb y r) (λ t. rw t new) (λ f. rw f old))
 
   module _ (start : P (Full Start)) where
-    starts-hold : (boxes : List ℕ) → length boxes ≡ 4224 → (s stations : ℕ) → s < 64 → P (boxAt boxes x y) → P (boxAt (startsPosted boxes s stations) x y)
+    starts-hold : (boxes : List ℕ) → length boxes ≡ 8320 → (s stations : ℕ) → s < 64 → P (boxAt boxes x y) → P (boxAt (startsPosted boxes s stations) x y)
     starts-hold boxes long s stations hs old =
         subst P (sym (box-after-starts boxes long s hs x hx stations y)) (by-bool (eqb x s && member y stations) (λ t. rw t start) (λ f. rw f old))
 
-    after-holds : (boxes : List ℕ) → length boxes ≡ 4224 → (from to : ℕ) → from < 64 → to < 64 → (receiver : Station) → P Empty → P (boxAt boxes x y)
+    after-holds : (boxes : List ℕ) → length boxes ≡ 8320 → (from to : ℕ) → from < 64 → to < 64 → (receiver : Station) → P Empty → P (boxAt boxes x y)
         → P (boxAt (boxesAfter boxes from to receiver) x y)
     unfolding boxesAfter
     after-holds boxes long from to hf ht receiver none old =
-        let emptied = put-holds boxes long from to hf ht Empty none old in
+        let emptied = put-holds boxes long from to hf ht Empty tt none old in
         by-bool (eqb (receiver .state) asleep)
         (λ t. rw t (starts-hold (withBox boxes from to Empty) (length-box boxes from to Empty ∙ long) to (without from (receiver .unstarted)) ht emptied))
         (λ f. rw f emptied)
@@ -148,7 +149,7 @@ and-implied : (a b : Bool) → (a ≡ true → b ≡ true) → (a && b) ≡ a
 and-implied true b h = h refl
 and-implied false b h = refl
 
-module _ (net : Net) (long : length (net .boxes) ≡ 4224) (f : wellFormed net ≡ true) (to : ℕ) (ht : to < net .config .k) where
+module _ (net : Net) (long : length (net .boxes) ≡ 8320) (f : wellFormed net ≡ true) (to : ℕ) (ht : to < net .config .k) where
   abbrev t : Config
   t = net .config
 
@@ -220,12 +221,12 @@ module _ (net : Net) (long : length (net .boxes) ≡ 4224) (f : wellFormed net �
         (placed-decides (ended after) _ (ended-decides t to after after-decides) (λ h.
         bounded-all t _ (λ x y lx ly.
         put-holds (Bounds t x y) x y (below x lx) (below y ly) boxes (length-after (net .boxes) from to (station net to) ∙ long) to (after .parent) (low .1) parent-low
-        (Full (Answer (after .held)))
+        (Full (Answer (after .held))) (omega (arith, bounded-parts t (after .held) (bounded-after (ended after) refl h) .1))
         (or-right (eqb x y) (bounded t (after .held)) (bounded-after (ended after) refl h)) (boxes-bounded x y lx ly)))))
         (λ e. rw e (placed-decides after boxes after-decides (λ h. bounded-all t boxes boxes-bounded)))
 
 -- the form after an allowed step
-formed-after : (net : Net) (s : Step) → length (net .boxes) ≡ 4224 → wellFormed net ≡ true → allowed rules net s ≡ true
+formed-after : (net : Net) (s : Step) → length (net .boxes) ≡ 8320 → wellFormed net ≡ true → allowed rules net s ≡ true
     → wellFormed (rules .apply net s) ≡ bounded (rules .apply net s .config) (station (rules .apply net s) (s .receiver) .held)
 unfolding netAfter
 formed-after net s long f a =
@@ -253,6 +254,6 @@ step-receives net s f a =
     )
 
 -- what the receiver of an allowed step holds decides on the form of the net after it
-module _ (net : Net) (s : Step) (long : length (net .boxes) ≡ 4224) (f : wellFormed net ≡ true) (a : allowed rules net s ≡ true) where
+module _ (net : Net) (s : Step) (long : length (net .boxes) ≡ 8320) (f : wellFormed net ≡ true) (a : allowed rules net s ≡ true) where
   pub next-formed : {next : Net} → next ≡ rules .apply net s → wellFormed next ≡ bounded (next .config) (station next (s .receiver) .held)
   next-formed e = subst (λ (x : Net). wellFormed x ≡ bounded (x .config) (station x (s .receiver) .held)) (sym e) (formed-after net s long f a)

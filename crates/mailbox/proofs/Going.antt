@@ -41,7 +41,7 @@ use Rattle.mailbox.proofs.FormAfter.{length-made, applied-is, step-rece
 -- what is known of a net while a run goes on
 pub record Going (first : Line) (words : List ℕ) (draws : List ℕ) (here : Line) (boxes : List ℕ) (takers : Takers) (rows : List ℕ) (z : Sizes) (made : ℕ) : Type 0 where
   pub running : Running rules (netOf first words) draws (netOf here boxes) made
-  pub long : length boxes ≡ 4224
+  pub long : length boxes ≡ 8320
   pub full : length (here .stations) ≡ 64
   pub known : takers ≡ takersOf (here .config .k) (here .stations)
   pub holds : HoldReceivers all (here .config .k) (rootOf (here .config)) takers (rootReports (here .config) (here .stations)) boxes rows z

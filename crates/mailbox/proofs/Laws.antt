@@ -11,8 +11,8 @@ use Rattle.finite.proofs.Cases.{clash, by-bool, by-sum, and-both, or-cases}
 use Rattle.finite.proofs.Below.{all-below-at}
 use Rattle.bitset.specs.Set.{member}
 use Rattle.aggregate.specs.declared.Config.{Config}
-use Rattle.aggregate.specs.Aggregate.{rootOf, valid}
-use Rattle.aggregate.proofs.Laws.{valid-k, root-below}
+use Rattle.aggregate.specs.Aggregate.{rootOf, valid, missingOf, bounded}
+use Rattle.aggregate.proofs.Laws.{valid-k, root-below, bounded-parts, joined-byte}
 use Rattle.station.specs.declared.Station.{Station}
 use Rattle.station.specs.Events.{asleep}
 use Rattle.station.proofs.Formed.{WellFormed, facts}
@@ -81,6 +81,15 @@ pub taken-parent : (P : ℕ → Type 0) (t : Config) (from : ℕ) (box : Mailbox
 taken-parent P t from Empty s h g = g
 taken-parent P t from (Full Start) s h g = by-bool (eqb (s .state) asleep) (λ e. rw e h) (λ e. rw e g)
 taken-parent P t from (Full (Answer v)) s h g = g
+
+-- whoever takes a bounded message, and was bounded, has a missing number that is a byte
+pub taken-byte : (t : Config) (from : ℕ) (box : Mailbox) (s : Station) → bounded t (s .held) ≡ true → mailboxBounded t box ≡ true
+    → missingOf (taken t from box s .held) < 256
+taken-byte t from Empty s h g = omega (arith, bounded-parts t (s .held) h .1)
+taken-byte t from (Full Start) s h g =
+    let small : missingOf (s .held) < 256 = omega (arith, bounded-parts t (s .held) h .1) in
+    by-bool (eqb (s .state) asleep) (λ e. rw e small) (λ e. rw e small)
+taken-byte t from (Full (Answer v)) s h g = joined-byte t (s .held) v h g
 
 -- the root of an accepted map has a place
 pub root-low : (m : Map) → acceptance m ≡ accepted → rootOf (configOf m) < 64

@@ -11,7 +11,7 @@ use borrow.Author.Tests.{eqb-true, eqb-false, eq-eqb, ne-eqb, not-true}
 use Rattle.finite.proofs.Cases.{clash, by-bool, by-eq, by-sum, and-both}
 use Rattle.bitset.specs.Set.{member}
 use Rattle.bitset.proofs.Laws.{within-member}
-use Rattle.aggregate.specs.Aggregate.{rootOf}
+use Rattle.aggregate.specs.Aggregate.{rootOf, missingOf}
 use Rattle.wave.specs.internal.Claim.{Runs, reached}
 use Rattle.station.specs.declared.Station.{Station}
 use Rattle.station.specs.Events.{asleep}
@@ -25,7 +25,7 @@ use Rattle.mailbox.specs.Net.{Net, station, wellFormed}
 use Rattle.mailbox.specs.Delivery.{mustAnswer, delivered, reported}
 use Rattle.mailbox.specs.Rules.{delivery, netAfter, rules}
 use Rattle.schedule.proofs.Answers.{allowed-parts}
-use Rattle.mailbox.proofs.Laws.{k-most, formed-at, places, taken-parent, delivery-may}
+use Rattle.mailbox.proofs.Laws.{k-most, formed-at, posted-bounded, places, taken-parent, taken-byte, delivery-may}
 use Rattle.mailbox.proofs.Delivered.{Shaped, receiver, delivered-config, delivered-shaped, station-after-delivery, box-after-delivery, reported-shaped, station-after-report}
 
 -- the mailbox from x to y is not one of two different stations below k
@@ -96,6 +96,11 @@ module _ (net : Net) (shaped : Shaped net) (f : wellFormed net ≡ true) (from t
           λ e. clash (ap (λ (j : ℕ). member j set) (sym ex ∙ e) ∙ named) (form .not-in-set),
         ))
 
+  byte : missingOf (after .held) < 256
+  byte =
+      taken-byte (net .config) from (boxAt (net .boxes) from to) (station net to) (formed-at net f to ht .held-bounded)
+      (posted-bounded net f from to hf ht (ne-eqb from to apart))
+
   delivery-keeps : Keeps net (delivered net from to)
   delivery-keeps =
       record {
@@ -103,7 +108,7 @@ module _ (net : Net) (shaped : Shaped net) (f : wellFormed net ≡ true) (from t
         stations = λ x past.
             station-after-delivery net shaped from to (low .0) (low .1) x ∙ rw (ne-eqb x to (λ e. omega arith));
         boxes = λ x y hx hy u.
-            box-after-delivery net shaped from to (low .0) (low .1) (omega (arith, parent-below, k-most net f)) x y hx hy apart
+            box-after-delivery net shaped from to (low .0) (low .1) (omega (arith, parent-below, k-most net f)) byte x y hx hy apart
             ∙ rw (not-emptied x y u, not-answered x y u, not-started x y u);
       }
 

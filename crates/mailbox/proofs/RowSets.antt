@@ -6,7 +6,6 @@ use Prim.Native.Nat.{ℕ, _≤_, _<_, _^_}
 use native.Mathlib.Nat.{lt-of-le-of-lt, lt-of-lt-of-le}
 use native.Mathlib.Omega.{arith}
 use lib.Bits.{bitAnd, and-le-r}
-use lib.ListN.{getD}
 use lib.Dec.{eqb, ltb}
 use lib.Pow.{pow-mono}
 use borrow.Author.Tests.{ne-eqb, lt-ltb, ltb-true}
@@ -26,7 +25,8 @@ use Rattle.schedule.specs.internal.Rows.{Filled}
 use Rattle.schedule.proofs.RowLists.{no-row, report-row}
 use Rattle.mail.specs.declared.Message.the-variants.{Start, Answer}
 use Rattle.mail.specs.declared.Mailbox.the-variants.{Empty, Full}
-use Rattle.mail.specs.Mail.{startsOf, answersOf, sumPlace, boxAt}
+use Rattle.mail.specs.Mail.{startsOf, answersOf, boxAt}
+use Rattle.mail.proofs.Laws.{brought}
 use Rattle.bitset.proofs.Unions.{member-union, union-lt}
 use Rattle.mailbox.specs.Net.{Net, station}
 use Rattle.mailbox.specs.declared.listing.Takers.{Takers}
@@ -83,7 +83,7 @@ module _ (net : Net) (few : net .config .k ≤ 64) where
         member-without i s _
         ∙ ap (λ (b : Bool). not (eqb i s) && b) (member-union i _ _ ∙ ap₂ _||_ (taken starts takesStart) (taken answers takesAnswer))
         ∙ rw (eqb-turn i s)
-        (delivery-tests (not (eqb s i)) (member i starts) (member i answers) (ltb i k) (station net i) (record { sum = getD (net .boxes) (sumPlace s i) 0 }))
+        (delivery-tests (not (eqb s i)) (member i starts) (member i answers) (ltb i k) (station net i) (brought (net .boxes) s i))
 
     allowed-is : (i : ℕ) → i < k → allowed rules net (step delivery s i) ≡ mayDeliver s i (station net i) (boxAt (net .boxes) s i)
     unfolding allowed inRange mayStep

@@ -20,8 +20,8 @@ use Rattle.mailbox.specs.Net.{freshNet}
 use Rattle.mailbox.proofs.Delivered.{Shaped}
 
 module _ (t : Config) (counts neighbours : List ℕ) where
-  empty-long : length noMail ≡ 4224
-  empty-long = length-replicate {A = ℕ} 4224 0
+  empty-long : length noMail ≡ 8320
+  empty-long = length-replicate {A = ℕ} 8320 0
 
   pub fresh-shaped : Shaped (freshNet t counts neighbours)
   unfolding freshNet freshStations
@@ -33,7 +33,7 @@ module _ (t : Config) (counts neighbours : List ℕ) where
 
   none : (x y : ℕ) → x < 64 → boxAt noMail x y ≡ Empty
   unfolding boxAt
-  none x y hx = rw (getD-replicate {A = ℕ} 4224 x 0 0 (omega arith), getD-replicate {A = ℕ} 4224 (64 + x) 0 0 (omega arith), member-empty y)
+  none x y hx = rw (getD-replicate {A = ℕ} 8320 x 0 0 (omega arith), getD-replicate {A = ℕ} 8320 (64 + x) 0 0 (omega arith), member-empty y)
 
   -- a start from the root to each of its neighbours, and all other mailboxes empty
   pub fresh-box : rootOf t < 64 → (x y : ℕ) → x < 64 → y < 64

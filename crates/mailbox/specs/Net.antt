@@ -13,7 +13,7 @@ use Rattle.stations.specs.Stations.{stationAt, areWellFormed, freshStations}
 use Rattle.mail.specs.Mail.{mailboxBounded, boxAt, startsPosted, noMail}
 use Rattle.mailbox.specs.declared.Line.{Line}
 
--- what the net was opened with, its 64 places of stations, and the 4,224 words of its mailboxes
+-- what the net was opened with, its 64 places of stations, and the 8,320 words of its mailboxes
 pub record Net : Type 0 where
   pub config : Config
   pub stations : List Station

@@ -101,7 +101,7 @@ fn must_answer(t: Config, to: u8, s: Station) -> bool
 // left to wait for posts its sum to its parent and is finished. It answers the receiver after that; no other station changes.
 pub(crate) fn deliver(
     t: Config,
-    boxes: &mut [u64; 4224],
+    boxes: &mut [u64; 8320],
     from: u8,
     to: u8,
     receiver: Station,
@@ -127,7 +127,7 @@ pub(crate) fn deliver(
 }
 
 // An allowed step, in place: what it makes of its receiver.
-pub(crate) fn receive(t: Config, boxes: &mut [u64; 4224], step: Step, receiver: Station) -> Station
+pub(crate) fn receive(t: Config, boxes: &mut [u64; 8320], step: Step, receiver: Station) -> Station
     requires places { ⌜ (step .sender < 64) × ((step .receiver < 64) × (receiver .parent < 64)) ⌝ }
     requires sums { ⌜ (bounded t (receiver .held) ≡ true)
         × (step .kind ≡ delivery → mailboxBounded t (boxAt (now boxes) (step .sender) (step .receiver)) ≡ true) ⌝ }

@@ -16,7 +16,8 @@ use Rattle.aggregate.specs.declared.Config.{Config}
 use Rattle.aggregate.specs.declared.Aggregate.{Aggregate}
 use Rattle.aggregate.specs.Aggregate.{rootOf, bounded}
 use Rattle.aggregate.specs.internal.Joining.{joining}
-use Rattle.wave.specs.internal.Wave.{next, Weak}
+use Rattle.wave.specs.internal.Wave.{State, next, Weak}
+use Rattle.wave.proofs.Invariant.{Inv}
 use Rattle.wave.specs.internal.Wave as wave
 use Rattle.topology.specs.Web.{Web}
 use Rattle.mail.specs.declared.Message.the-variants.{Start, Answer}
@@ -93,20 +94,25 @@ module _ (t : Config) (counts neighbours : List ℕ) (web : Web (rootOf t) (t .k
       or-right (eqb x y) (mailboxBounded t (boxAt (n .boxes) x y))
       (box-bounded (boxAt (n .boxes) x y) (λ u e. let part = F .posted x y u l m e in part-of-total t counts neighbours web small u (part .0) (part .1))))))
 
+  -- a net that stands for a state of the wave is in form
+  pub formed : (n : Net) (S : State Aggregate) → Good t neighbours web n × Mails (line t neighbours web) (view n) S
+      → Inv (line t neighbours web) (joining t) (reading t counts neighbours web small) S → wellFormed n ≡ true
+  formed n S R I = formed-of n (R .0) (mail-formed (line t neighbours web) (joining t) (reading t counts neighbours web small) S I (view n) (R .1))
+
   abbrev pub ties : Ties rules (line t neighbours web) (joining t) (reading t counts neighbours web small) opened (λ n. station n (rootOf t) .held)
   ties =
       record {
         Stands = λ n S. Good t neighbours web n × Mails (line t neighbours web) (view n) S;
         opened-stands = (opens-good, mail-fresh (line t neighbours web) (reading t counts neighbours web small) (view opened) opens);
         held-is = λ n S R. R .1 .stations .sums (rootOf t) (line t neighbours web .root-in);
-        formed = λ n S R I. formed-of n (R .0) (mail-formed (line t neighbours web) (joining t) (reading t counts neighbours web small) S I (view n) (R .1));
+        formed = formed;
         sound = λ n S m R I a.
             subst (Weak (line t neighbours web) S) (label-act m)
             (mail-sound (line t neighbours web) (joining t) (reading t counts neighbours web small) S I (view n) (R .1) (act m) (may-of t neighbours web n m (R .0) a));
         keeps = λ n S m R I a. (
           good-of t neighbours web n m (R .0) a,
           subst (λ (s : wave.Step). Mails (line t neighbours web) (view (rules .apply n m)) (next (line t neighbours web) (joining t) S s)) (label-act m)
-              (mail-keeps (line t neighbours web) (joining t) (reading t counts neighbours web small) S I (view n) (view (rules .apply n m)) (R .1) (act m) (may-of t neighbours web n m (R .0) a) (does-of t neighbours web n m (R .0) a)),
+              (mail-keeps (line t neighbours web) (joining t) (reading t counts neighbours web small) S I (view n) (view (rules .apply n m)) (R .1) (act m) (may-of t neighbours web n m (R .0) a) (does-of t neighbours web n m (R .0) a (formed n S R I))),
         );
         live = λ n S s R I st.
             let a = mail-live (line t neighbours web) (joining t) (reading t counts neighbours web small) S I (view n) (R .1) s st in

@@ -15,7 +15,7 @@ use Rattle.bitset.specs.Set.{member, size}
 use Rattle.bitset.proofs.Laws.{size-sum}
 use Rattle.aggregate.specs.declared.Config.{Config}
 use Rattle.aggregate.specs.declared.Aggregate.{Aggregate}
-use Rattle.aggregate.specs.Aggregate.{rootOf}
+use Rattle.aggregate.specs.Aggregate.{rootOf, missingOf}
 use Rattle.aggregate.specs.internal.Joining.{joining}
 use Rattle.wave.specs.internal.Graph.{Graph}
 use Rattle.station.specs.declared.Station.{Station}
@@ -28,7 +28,8 @@ use Rattle.topology.specs.Web.{Web}
 use Rattle.mail.specs.declared.Message.the-variants.{Start, Answer}
 use Rattle.mail.specs.declared.Mailbox.{Mailbox}
 use Rattle.mail.specs.declared.Mailbox.the-variants.{Empty, Full}
-use Rattle.mailbox.specs.Net.{Net, station}
+use Rattle.mailbox.specs.Net.{Net, station, wellFormed}
+use Rattle.mailbox.proofs.Laws.{formed-at, posted-bounded, taken-byte}
 use Rattle.mail.specs.Mail.{boxAt}
 use Rattle.mailbox.specs.Delivery.{takesFrom, taken, mustAnswer, delivered, mayReport, reported}
 use Rattle.mailbox.proofs.Delivered.{Shaped, receiver, delivered-config, delivered-shaped, station-after-delivery, box-after-delivery, reported-shaped, station-after-report, box-after-report}
@@ -221,16 +222,23 @@ module _ (t : Config) (neighbours : List ℕ) (web : Web (rootOf t) (t .k) neigh
         (cond (eqb x r && (answers && eqb y parent)) (Full (Answer held))
         (cond (eqb x r && (eqb (station n r .state) 0 && (member y (station n r .unstarted) && not (eqb y s)))) (Full Start) (boxAt (n .boxes) x y)))
 
-    box-is : (x y : ℕ) → x < 64 → y < 64 → boxAt (delivered n s r .boxes) x y ≡ later x y (mustAnswer t r R) (R .parent) (R .held)
-    box-is x y hx hy =
+    -- in a net in form, what the receiver then holds fits the words of a mailbox
+    byte : wellFormed n ≡ true → missingOf (after (n .config) .held) < 256
+    byte f =
+        let low : (s < n .config .k) × (r < n .config .k) = rw (G .config-is) (hs, hr) in
+        taken-byte (n .config) s (boxAt (n .boxes) s r) (station n r) (formed-at n f r (low .1) .held-bounded)
+        (posted-bounded n f s r (low .0) (low .1) (ne-eqb s r ne))
+
+    box-is : wellFormed n ≡ true → (x y : ℕ) → x < 64 → y < 64 → boxAt (delivered n s r .boxes) x y ≡ later x y (mustAnswer t r R) (R .parent) (R .held)
+    box-is f x y hx hy =
         let low : after (n .config) .parent < 64 = subst (λ (c : Config). after c .parent < 64) (sym (G .config-is)) (omega (arith, parent-low, web .few-stations)) in
-        box-after-delivery n (G .shaped) s r s-low r-low low x y hx hy ne
+        box-after-delivery n (G .shaped) s r s-low r-low low (byte f) x y hx hy ne
         ∙ ap (λ (c : Config). later x y (mustAnswer c r (after c)) (after c .parent) (after c .held)) (G .config-is)
 
-    box-then : (x y : ℕ) → x < t .k → y < t .k → toBox (boxAt (delivered n s r .boxes) x y) ≡ boxThen web-graph (joining t) (view n) s r x y
-    box-then x y h l =
+    box-then : wellFormed n ≡ true → (x y : ℕ) → x < t .k → y < t .k → toBox (boxAt (delivered n s r .boxes) x y) ≡ boxThen web-graph (joining t) (view n) s r x y
+    box-then f x y h l =
         let answers = answersThen web-graph (view n) r in
-        ap toBox (box-is x y (omega (arith, web .few-stations)) (omega (arith, web .few-stations)))
+        ap toBox (box-is f x y (omega (arith, web .few-stations)) (omega (arith, web .few-stations)))
         ∙ ap (λ (a : Bool). toBox (later x y a (R .parent) (R .held))) must-is
         ∙ ap₂ (λ (p : ℕ) (u : Aggregate). toBox (later x y answers p u)) (T .parent-is) (T .sum-is)
         ∙ by-bool (eqb x s && eqb y r)
@@ -239,8 +247,8 @@ module _ (t : Config) (neighbours : List ℕ) (web : Web (rootOf t) (t .k) neigh
         (λ b. rw (a, b))
         (λ b. by-bool (eqb x r && (eqb (station n r .state) 0 && (member y (station n r .unstarted) && not (eqb y s)))) (λ c. rw (a, b, c)) (λ c. rw (a, b, c))))
 
-    delivers : Does web-graph (joining t) (view n) (deliver s r) (view (delivered n s r))
-    delivers =
+    delivers : wellFormed n ≡ true → Does web-graph (joining t) (view n) (deliver s r) (view (delivered n s r))
+    delivers f =
         record {
           stations =
               record {
@@ -250,7 +258,7 @@ module _ (t : Config) (neighbours : List ℕ) (web : Web (rootOf t) (t .k) neigh
                 waitings = λ x l. field-is (λ st. st .waits) (waitsThen web-graph (view n) r) (kept (λ st. st .waits) refl ∙ T .waits-is) x;
                 states = λ x l. field-is (λ st. st .state) (cond (answersThen web-graph (view n) r) 2 1) state-then x;
               };
-          boxes = λ x y l b. box-then x y l b;
+          boxes = λ x y l b. box-then f x y l b;
         }
 
     delivered-good : Good (delivered n s r)
@@ -316,10 +324,10 @@ module _ (t : Config) (neighbours : List ℕ) (web : Web (rootOf t) (t .k) neigh
         }
 
   module _ (n : Net) (m : Step) (G : Good n) (a : Allowed rules n m) where
-    pub does-of : Does web-graph (joining t) (view n) (act m) (view (rules .apply n m))
-    does-of =
+    pub does-of : wellFormed n ≡ true → Does web-graph (joining t) (view n) (act m) (view (rules .apply n m))
+    does-of f =
         by-step n m G a (λ b n′. Does web-graph (joining t) (view n) b (view n′))
-        (λ s r hs hr ne e. delivers n G s r hs hr ne e)
+        (λ s r hs hr ne e. delivers n G s r hs hr ne e f)
         (λ e. reports n G)
 
     pub good-of : Good (rules .apply n m)

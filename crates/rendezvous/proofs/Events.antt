@@ -10,10 +10,8 @@ use lib.Dec.{eqb}
 use borrow.Author.Tests.{lt-ltb, eq-eqb, ne-eqb, eqb-true, eqb-false, not-true}
 use Rattle.finite.proofs.Cases.{by-bool, by-eq, and-both, or-left, or-right}
 use Rattle.bitset.proofs.Laws.{within-lt, within-width}
-use Rattle.aggregate.specs.declared.Config.{Config}
-use Rattle.aggregate.specs.declared.Aggregate.{Aggregate}
-use Rattle.aggregate.specs.Aggregate.{rootOf, bounded, joined}
-use Rattle.aggregate.proofs.Laws.{bounded-lt, lt-bounded, nothing-bounded, same-sum, sum-joined, root-below, root-any-k}
+use Rattle.aggregate.specs.Aggregate.{rootOf, bounded}
+use Rattle.aggregate.proofs.Laws.{nothing-bounded, root-below, root-any-k, joined-any-k, bounded-any-k}
 use Rattle.station.specs.declared.Station.{Station}
 use Rattle.station.specs.declared.Process.{Process}
 use Rattle.station.specs.Events.{asleep, active, maySendStart, startSent, answerTaken, startedBy, mayReport, mayAnswer, ready, ended}
@@ -55,10 +53,6 @@ answer-together false m n p = sym (simp and-false)
 eqb-comm : (a b : ℕ) → eqb a b ≡ eqb b a
 eqb-comm a b = by-eq a b (λ e. eq-eqb a b e ∙ sym (eq-eqb b a (sym e))) (λ n. ne-eqb a b n ∙ sym (ne-eqb b a (λ e. n (sym e))))
 
--- joining asks nothing of what the net was opened with
-joined-alike : (t u : Config) (a b : Aggregate) → joined t a b ≡ joined u a b
-joined-alike t u a b = same-sum _ _ (sum-joined t a b ∙ sym (sum-joined u a b))
-
 module _ (net : Net) (f : wellFormed net ≡ true) (full : length (net .stations) ≡ 64) where
   -- a station by itself has the net's root, though 64 stands for k
   same-root : (i : ℕ) → rootOf (processConfig (processAt net i)) ≡ rootOf (net .config)
@@ -79,7 +73,7 @@ module _ (net : Net) (f : wellFormed net ≡ true) (full : length (net .stations
         parent-below = omega (arith, w .parent-below);
         set-within = within-width (t .k) 64 (station net i .unstarted) (within-lt (t .k) (station net i .unstarted) (w .set-within)) most;
         waits-le = w .waits-le;
-        held-bounded = lt-bounded (processConfig (processAt net i)) (station net i .held) (bounded-lt t (station net i .held) (w .held-bounded));
+        held-bounded = bounded-any-k (processConfig (processAt net i)) t (station net i .held) ∙ w .held-bounded;
         not-in-set = w .not-in-set;
         own-parent = λ e. w .own-parent e ∙ sym (same-root i);
       }))
@@ -162,7 +156,7 @@ module _ (net : Net) (f : wellFormed net ≡ true) (full : length (net .stations
         let t = processConfig (processAt net i) in
         let held = facts (net .config) j (station net j) (formed-at net f j lj) .held-bounded in
         by-bool (mayAnswer (net .config) j (station net j))
-        (λ g. rw (process-formed j lj, same-guard ∙ g) (lt-bounded t (station net j .held) (bounded-lt (net .config) (station net j .held) held)))
+        (λ g. rw (process-formed j lj, same-guard ∙ g) (bounded-any-k t (net .config) (station net j .held) ∙ held))
         (λ g. rw (process-formed j lj, same-guard ∙ g) (nothing-bounded t))
 
     takes-answer : let v = sendAnswer (processAt net j) .given in
@@ -184,7 +178,7 @@ module _ (net : Net) (f : wellFormed net ≡ true) (full : length (net .stations
         (rw (eqb-comm i j) guard)
         (λ m.
         let sent = and-both (not (eqb j i) && fit) send (and-both (not (eqb j i) && fit && send) state (sym guard ∙ m) .0) .1 in
-        rw (given-held sent, joined-alike (net .config) (processConfig (processAt net i)) (r .held) (s .held)))
+        rw (given-held sent, joined-any-k (net .config) (processConfig (processAt net i)) (r .held) (s .held)))
 
   root-inside : rootOf (net .config) < net .config .k
   unfolding wellFormed

@@ -32,9 +32,9 @@ woken =
     record {
       config = record { k = 3 };
       stations =
-          (record { held = record { sum = 5 }; unstarted = 4; parent = 0; waits = 2; state = 1 }
-          ∷ record { held = record { sum = 7 }; unstarted = 4; parent = 0; waits = 1; state = 1 }
-          ∷ record { held = record { sum = 11 }; unstarted = 3; parent = 0; waits = 2; state = 0 }
+          (record { held = record { sum = 5; missing = 0 }; unstarted = 4; parent = 0; waits = 2; state = 1 }
+          ∷ record { held = record { sum = 7; missing = 0 }; unstarted = 4; parent = 0; waits = 1; state = 1 }
+          ∷ record { held = record { sum = 11; missing = 0 }; unstarted = 3; parent = 0; waits = 2; state = 0 }
           ∷ [])
           ++ replicate 61 blank;
     }

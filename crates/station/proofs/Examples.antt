@@ -13,11 +13,11 @@ use Rattle.station.specs.Process.{done, eventRefused, decide, takeStart,
 
 -- asleep, as the fresh net has it
 abbrev sleeping : Process
-sleeping = record { own = 1; station = record { held = record { sum = 7 }; unstarted = 5; parent = 0; waits = 2; state = 0 } }
+sleeping = record { own = 1; station = record { held = record { sum = 7; missing = 0 }; unstarted = 5; parent = 0; waits = 2; state = 0 } }
 
 -- woken by the root: it still has to start station 2, and waits for its message
 abbrev waiting : Process
-waiting = record { own = 1; station = record { held = record { sum = 7 }; unstarted = 4; parent = 0; waits = 1; state = 1 } }
+waiting = record { own = 1; station = record { held = record { sum = 7; missing = 0 }; unstarted = 4; parent = 0; waits = 1; state = 1 } }
 
 wakes : takeStart 0 sleeping ≡ done waiting
 unfolding takeStart decide wellFormedProcess wellFormed startedBy member membersBelow size without within bounded rootOf
@@ -35,7 +35,7 @@ own-start = (refl, refl)
 
 -- so is an answer that makes the sum 2^62
 abbrev large : Aggregate
-large = record { sum = 2 ^ 62 - 7 }
+large = record { sum = 2 ^ 62 - 7; missing = 0 }
 
 large-answer : (takeAnswer large waiting .number ≡ 0) × (wellFormedProcess (takeAnswer large waiting .process) ≡ false)
 unfolding takeAnswer decide wellFormedProcess wellFormed member within bounded joined rootOf

@@ -8,7 +8,8 @@ use Rattle.finite.specs.Sum.{sum}
 use Rattle.finite.specs.Below.{allBelow, tabulate}
 use Rattle.bitset.specs.Set.{size}
 use Rattle.aggregate.specs.declared.Config.{Config}
-use Rattle.aggregate.specs.Aggregate.{rootOf, valid, sumOf, gathered, nothing}
+use Rattle.aggregate.specs.declared.Aggregate.{Aggregate}
+use Rattle.aggregate.specs.Aggregate.{rootOf, valid, sumOf, missingOf, gathered, nothing}
 use Rattle.station.specs.declared.Station.{Station}
 use Rattle.station.specs.Events.{asleep, active, finished}
 use Rattle.station.specs.Form.{wellFormed}
@@ -37,6 +38,8 @@ freshStation t count neighbours i =
 unfoldable pub freshStations : Config → List ℕ → List ℕ → List Station
 freshStations t counts neighbours = tabulate 64 (λ i. freshStation t (getD counts i 0) (getD neighbours i 0) i)
 
--- "the sums of stations not finished" (Stations that meet), added: of k stations
-abbrev pub unfinishedSum : ℕ → (ℕ → Station) → ℕ
-unfinishedSum k station = sum k (λ i. cond (eqb (station i .state) finished) 0 (sumOf (station i .held)))
+-- "the sums of stations not finished" (Stations that meet), added, and their missing numbers: of k stations
+abbrev pub unfinished : ℕ → (ℕ → Station) → Aggregate
+unfinished k station =
+    let added : (Aggregate → ℕ) → ℕ = λ f. sum k (λ i. cond (eqb (station i .state) finished) 0 (f (station i .held))) in
+    record { sum = added sumOf; missing = added missingOf }

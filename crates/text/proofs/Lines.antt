@@ -6,7 +6,7 @@ use native.Mathlib.Omega.{arith}
 use lib.ListN.{length, length-append}
 use borrow.Author.Tests.{lt-leb, le-leb}
 use Rattle.aggregate.specs.declared.Aggregate.{Aggregate}
-use Rattle.aggregate.specs.Aggregate.{sumOf}
+use Rattle.aggregate.specs.Aggregate.{sumOf, missingOf}
 use Rattle.text.specs.declared.Line.{Line}
 use Rattle.text.specs.declared.Line.the-variants.{Wake, Pass, Answer, Report, Closing, Refused, RefusedStation}
 use Rattle.text.specs.Ascii.{ascii}
@@ -19,9 +19,9 @@ item-le : (word : List ℕ) (n : ℕ) → length (item word n) ≤ length word +
 unfolding item
 item-le word n = rw length-append (omega (arith, digits-le 20 n))
 
-aggregate-le : (a : Aggregate) → length (aggregateText a) ≤ 21
+aggregate-le : (a : Aggregate) → length (aggregateText a) ≤ 42
 unfolding aggregateText
-aggregate-le a = item-le (ascii " ") (sumOf a)
+aggregate-le a = rw length-append (omega (arith, item-le (ascii " ") (sumOf a), item-le (ascii " ") (missingOf a)))
 
 -- every line fits
 words-le : (line : Line) → length (wordsOf line) < lineRoom

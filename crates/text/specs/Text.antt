@@ -6,7 +6,7 @@ use Prim.Native.Char.{code}
 use lib.Dec.{ltb, leb}
 use lib.ListN.{length, drop}
 use Rattle.aggregate.specs.declared.Aggregate.{Aggregate}
-use Rattle.aggregate.specs.Aggregate.{sumOf}
+use Rattle.aggregate.specs.Aggregate.{sumOf, missingOf}
 use Rattle.text.specs.declared.Line.{Line}
 use Rattle.text.specs.Ascii.{ascii}
 use Rattle.text.specs.declared.Line.the-variants.{Wake, Pass, Answer, Report, Closing, Refused, RefusedStation}
@@ -24,9 +24,9 @@ digits (suc f) n = cond (ltb n 10) (digit n) (digits f (n / 10) ++ digit (n % 10
 unfoldable pub item : List ℕ → ℕ → List ℕ
 item word n = word ++ digits 20 n
 
--- what an answer or a report carries: the sum
+-- what an answer or a report carries: the sum, then "Answer and report lines end with" the missing number (document 02, request 1)
 unfoldable pub aggregateText : Aggregate → List ℕ
-aggregateText a = item (ascii " ") (sumOf a)
+aggregateText a = item (ascii " ") (sumOf a) ++ item (ascii " ") (missingOf a)
 
 -- "Wake and pass show sender, receiver; answer adds the sum; report shows the desk, the total."
 -- "a closing line with the lot, the steps made and m"
@@ -46,7 +46,7 @@ textOf line = wordsOf line ++ ascii "\n"
 
 -- every line fits into so many bytes
 abbrev pub lineRoom : ℕ
-lineRoom = 80
+lineRoom = 100
 
 -- what is put into a buffer of n bytes: the line, or nothing where not every line would fit
 unfoldable pub textIn : ℕ → Line → List ℕ

@@ -20,7 +20,7 @@ pub enum Line {
 }
 
 // Room for every line.
-pub const LINE_ROOM: usize = 80;
+pub const LINE_ROOM: usize = 100;
 
 const MOST_DIGITS: u8 = 20;
 
@@ -76,7 +76,8 @@ fn put_aggregate(buf: &mut [u8], at: usize, a: Aggregate) -> usize
     requires { ⌜ Room (now buf) at (aggregateText a) ⌝ }
     ensures { λ r. ⌜ Put (now (buf .entry)) at (aggregateText a) (now (buf .exit)) r ⌝ }
 {
-    put_item(buf, at, b" ", aggregate::sum_of(a))
+    let end = put_item(buf, at, b" ", aggregate::sum_of(a));
+    put_item(buf, end, b" ", aggregate::missing_of(a) as u64)
 }
 
 // The line, but for its line feed.
@@ -116,7 +117,7 @@ fn put_words(buf: &mut [u8], line: Line) -> usize
     }
 }
 
-// Puts the line at the start of buf and answers its length. A buf of under 80 bytes is left as it was, and the answer is 0.
+// Puts the line at the start of buf and answers its length. A buf of under 100 bytes is left as it was, and the answer is 0.
 pub fn put_line(buf: &mut [u8], line: Line) -> usize
     ensures count { λ r. ⌜ r ≡ length (textIn (length (now (buf .entry))) line) ⌝ }
     ensures bytes { λ _. ⌜ now (buf .exit) ≡ over (textIn (length (now (buf .entry))) line) (now (buf .entry)) ⌝ }

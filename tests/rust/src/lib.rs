@@ -1,5 +1,5 @@
-//! The lot tally's independent model, written from document 01 and document 001 (and the header for how mail stands in
-//! words), and the machinery that holds the proved library and the built program against it.
+//! The lot tally's independent model, written from documents 01, 02 and 001 (and the header for how mail stands in words),
+//! and the machinery that holds the proved library and the built program against it.
 
 pub mod calls;
 pub mod compare;

@@ -119,20 +119,23 @@ fn stack() {
     }
 }
 
-/// Station 1 in document 01's second order of the triangle: wake 0 1, wake 1 2, .., answer 2 1 11, answer 1 0 18.
+/// Station 1 in document 01's second order of the triangle, wake 0 1, wake 1 2, .., answer 2 1, answer 1 0, where station 2
+/// has no reading: answer 2 1 0 1, answer 1 0 7 1.
 #[test]
 fn example_controller() {
     let life = "\
-take start from 0: parent 0, waits 1, sum 7
+take start from 0: parent 0, waits 1, sum 7, missing 0
 send start to 2
 take start from 200: refused 12
-take answer 11 from 2: parent 0, waits 0, sum 18
-send answer 18 to 0
+take answer 0 200 from 2: refused 12
+take answer 0 1 from 2: parent 0, waits 0, sum 7, missing 1
+send answer 7 1 to 0
 ";
     assert_eq!(run("examples/c/controller.c", &[]), life);
 }
 
-/// Document 01's example of the program and its closing line; then its second order, where station 1 woke station 2.
+/// Document 01's example of the program and its closing line; then its second order, where station 1 woke station 2, with
+/// all readings and without that of station 1.
 #[cfg(feature = "meet")]
 #[test]
 fn example_desk() {
@@ -142,12 +145,13 @@ wake 0 1
 wake 0 2
 pass 1 2
 pass 2 1
-answer 1 0 7
-answer 2 0 11
-report 0 23
+answer 1 0 7 0
+answer 2 0 11 0
+report 0 23 0
 refused 14
 lot 42 steps 7 links 3
-run: steps 7, at rest 1, total 23, station 2 hung on 1
+run: steps 7, at rest 1, total 23, missing 0, station 2 hung on 1
+run: steps 7, at rest 1, total 16, missing 1, station 2 hung on 1
 ";
     assert_eq!(run("examples/c/desk.c", &[]), lots);
 }

@@ -1,10 +1,15 @@
-//! Document 01's examples on the model, those marked * too.
+//! Document 01's examples on the model, those marked * too, and the edges of document 02, request 1.
 
 use conformance::calls::Model;
 use conformance::edges;
 use conformance::model::mail::Mail;
 use conformance::model::meet::Meet;
 use conformance::model::text;
+
+#[test]
+fn one_station() {
+    edges::stations(&Model);
+}
 
 #[test]
 fn maps() {

@@ -32,6 +32,6 @@ fn full_run() {
 }
 
 #[test]
-fn both_kinds_report_the_same_number() {
+fn both_kinds_report_the_same() {
     net::kinds_agree::<Meet, Mail>(&Library, &Library, 200);
 }

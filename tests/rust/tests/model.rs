@@ -4,8 +4,10 @@
 use conformance::calls::Model;
 use conformance::compare::{map, net, program, station};
 use conformance::edges;
+use conformance::gen::aggregate;
 use conformance::gen::net::any;
-use conformance::model::mail::{Mail, Message};
+use conformance::model::aggregate::Aggregate;
+use conformance::model::mail::{Mail, Message, Outbox};
 use conformance::model::meet::{Meet, ANSWER, PASS, REPORT, WAKE};
 use conformance::model::net::{Net, Step};
 use conformance::model::set;
@@ -25,7 +27,7 @@ fn demand_3_holds_for_stations_with_mail() {
 }
 
 #[test]
-fn both_kinds_report_the_same_number() {
+fn both_kinds_report_the_same() {
     net::kinds_agree::<Meet, Mail>(&Model, &Model, 200);
 }
 
@@ -55,7 +57,7 @@ fn a_post_is_what_the_box_holds() {
     for_cases(500, |rng| {
         let net: Mail = any(rng);
         let (before, receiver) = (rng.pick(&net.outboxes), rng.station(64));
-        for message in [Message::Start, Message::Answer(rng.bits())] {
+        for message in [Message::Start, Message::Answer(aggregate::any(rng))] {
             let mut outbox = before;
             outbox.post(receiver, message);
             assert_eq!(outbox.mailbox(receiver), Some(message));
@@ -64,6 +66,18 @@ fn a_post_is_what_the_box_holds() {
             }
         }
     });
+}
+
+/// A missing word is read by its lowest byte, and written whole.
+#[test]
+fn missing_words() {
+    let mut outbox = Outbox { answers: 1 << 5, ..Outbox::EMPTY };
+    outbox.missing[5] = 0x0102_0304_0506_0740;
+    assert_eq!(outbox.mailbox(5), Some(Message::Answer(Aggregate { sum: 0, missing: 64 })));
+    outbox.post(5, Message::Start);
+    assert_eq!(outbox.missing[5], 0x0102_0304_0506_0740);
+    outbox.post(5, Message::Answer(Aggregate { sum: 7, missing: 128 }));
+    assert_eq!((outbox.missing[5], outbox.sums[5]), (128, 7));
 }
 
 /// "Each step .. equals Figure 2": on any net in form, reachable or not, the same steps are allowed and do the same.
@@ -114,7 +128,9 @@ fn figure_2(net: &Meet, step: Step) -> Option<Meet> {
             receiver.state == ACTIVE && starts
         }
         ANSWER => {
-            next.stations[to_receiver].sum = receiver.sum + sender.sum;
+            let (held, given) = (receiver.held, sender.held);
+            next.stations[to_receiver].held =
+                Aggregate { sum: held.sum + given.sum, missing: held.missing + given.missing };
             next.stations[to_receiver].waits = receiver.waits.saturating_sub(1);
             next.stations[to_sender].state = FINISHED;
             done && receiver.state == ACTIVE && sender.parent == i && j != 0 && j != i

@@ -1,4 +1,4 @@
--- `mail::store_answer` meets its contract: the sum is stored beside the sets. Assumes nothing.
+-- `mail::store_answer` meets its contract: what the answer brings is stored beside the sets. Assumes nothing.
 use Rattle.mail.specs.Mail.{withAnswer}
 use borrow.Author.Needs.{needs}
 use Rattle.mail.proofs.store_answer.Statement.{statement}
@@ -6,6 +6,12 @@ use Rattle.mail.proofs.store_answer.Tie as tie
 
 put-waiting-requires : tie.Need-put-waiting-requires
 put-waiting-requires c κs = search needs
+
+missing-word-requires : tie.Need-missing-word-requires
+missing-word-requires c κs = search needs
+
+sum-of-requires : tie.Need-sum-of-requires
+sum-of-requires c κs = search needs
 
 mul-boxes : tie.Need-mul-boxes
 mul-boxes c = search needs
@@ -22,18 +28,40 @@ mul-boxes-2 c = search needs
 element-write-boxes : tie.Need-element-write-boxes
 element-write-boxes c = search needs
 
+mul-boxes-3 : tie.Need-mul-boxes-3
+mul-boxes-3 c = search needs
+
+add-boxes-3 : tie.Need-add-boxes-3
+add-boxes-3 c = search needs
+
+add-boxes-4 : tie.Need-add-boxes-4
+add-boxes-4 c = search needs
+
+mul-boxes-4 : tie.Need-mul-boxes-4
+mul-boxes-4 c = search needs
+
+element-write-boxes-2 : tie.Need-element-write-boxes-2
+element-write-boxes-2 c = search needs
+
 returns : tie.Need-returns
 unfolding withAnswer
-returns c = rw (c .put-waiting .ensures)
+returns c = rw (c .before .before .put-waiting .ensures, c .before .missing-word .ensures, c .sum-of .ensures)
 
 pub store-answer-spec : {M : Type 1} → statement M
 store-answer-spec =
     tie.close
     (tie.spec
     put-waiting-requires
+    missing-word-requires
+    sum-of-requires
     mul-boxes
     add-boxes
     add-boxes-2
     mul-boxes-2
     element-write-boxes
+    mul-boxes-3
+    add-boxes-3
+    add-boxes-4
+    mul-boxes-4
+    element-write-boxes-2
     returns)

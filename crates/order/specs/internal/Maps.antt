@@ -5,14 +5,14 @@ use mathlib.Core.List.{List, map}
 use Prim.Native.Nat.{ℕ}
 use lib.ListN.{getD}
 use Rattle.aggregate.specs.declared.Aggregate.{Aggregate}
-use Rattle.aggregate.specs.Aggregate.{sumOf, gathered}
+use Rattle.aggregate.specs.Aggregate.{gathered}
 use Rattle.aggregate.specs.internal.Joining.{joining}
 use Rattle.wave.specs.internal.Wave.{report}
 use Rattle.wave.specs.internal.Claim.{times}
 use Rattle.topology.specs.Answer.{accepted}
 use Rattle.topology.specs.Acceptance.{linked}
 use Rattle.linemap.specs.declared.Map.{Map}
-use Rattle.linemap.specs.Maps.{configOf, acceptance, totalCount}
+use Rattle.linemap.specs.Maps.{configOf, acceptance, totals}
 use Rattle.linemap.specs.RoundTrip.{Fits}
 use Rattle.schedule.specs.Rules.{Rules}
 use Rattle.schedule.specs.Calls.{Call, callsMade, callsNet}
@@ -27,7 +27,7 @@ readings m i = gathered (configOf m) (record { count = getD (m .counts) i 0 })
 pub record OrderOn {Net : Type 0} (R : Rules Net) (m : Map) (fresh : Net) (held : Net → Aggregate) : Type 0 where
   pub order : OrderFree R (m .k) (linked (m .k) (m .neighbours)) (joining (configOf m)) (readings m) fresh held
   pub number : (calls : List Call) → times report (map (labelOf R) (callsMade R fresh calls)) ≡ 1
-      → sumOf (held (callsNet R fresh calls)) ≡ totalCount m
+      → held (callsNet R fresh calls) ≡ totals m
 
 -- Demand 3 for a kind of net: on every accepted map
 abbrev pub Ordered : {Net : Type 0} → Rules Net → (Map → Net) → (Map → Net → Aggregate) → Type 0

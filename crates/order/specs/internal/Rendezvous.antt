@@ -8,11 +8,11 @@ use Rattle.wave.specs.internal.Wave.{report}
 use Rattle.wave.specs.internal.Claim.{times}
 use Rattle.topology.specs.Answer.{accepted}
 use Rattle.linemap.specs.declared.Map.{Map}
-use Rattle.linemap.specs.Maps.{configOf, acceptance, totalCount}
+use Rattle.linemap.specs.Maps.{configOf, acceptance, totals}
 use Rattle.linemap.specs.RoundTrip.{Fits}
 use Rattle.schedule.specs.Calls.{Call, callsMade, callsNet}
 use Rattle.schedule.specs.internal.Labels.{labelOf}
-use Rattle.stations.specs.Stations.{unfinishedSum}
+use Rattle.stations.specs.Stations.{unfinished}
 use Rattle.rendezvous.specs.declared.Net.{Net}
 use Rattle.rendezvous.specs.Net.{station}
 use Rattle.rendezvous.specs.Opening.{freshOn}
@@ -32,4 +32,4 @@ RendezvousOrdered = Ordered rules freshOn rootHeld
 abbrev pub RendezvousConserved : Type 0
 RendezvousConserved =
     (m : Map) → Fits m → acceptance m ≡ accepted → (calls : List Call) → times report (map (labelOf rules) (callsMade rules (freshOn m) calls)) ≡ 0
-    → unfinishedSum (m .k) (station (callsNet rules (freshOn m) calls)) ≡ totalCount m
+    → unfinished (m .k) (station (callsNet rules (freshOn m) calls)) ≡ totals m

@@ -5,8 +5,22 @@ pub mod net;
 pub mod program;
 pub mod station;
 
+use crate::model::aggregate::{Aggregate, MOST_MISSING, SUM_LIMIT};
 use crate::rng;
 use std::collections::BTreeMap;
+
+/// By what something gathered is out of form.
+const EXCESSES: [&str; 3] = ["sum alone beyond", "missing number alone beyond", "sum and missing number beyond"];
+
+fn excess(gathered: Aggregate) -> Option<&'static str> {
+    let [sum, missing, both] = EXCESSES;
+    match (gathered.sum >= SUM_LIMIT, gathered.missing > MOST_MISSING) {
+        (false, false) => None,
+        (true, false) => Some(sum),
+        (false, true) => Some(missing),
+        (true, true) => Some(both),
+    }
+}
 
 /// How often each call met each number: a comparison that never met a refusal says nothing about it.
 #[derive(Default)]

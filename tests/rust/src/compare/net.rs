@@ -1,10 +1,11 @@
 //! Nets of either kind: answer, values and whole net after every call, and demand 3 on every list from a fresh net.
 
-use super::Coverage;
+use super::{excess, Coverage, EXCESSES};
 use crate::calls::{Call, Model, NetCalls, Reply};
 use crate::gen::call;
-use crate::gen::map::{accepted, all_linked, handed_over};
+use crate::gen::map::{accepted, all_linked_mixed, handed_over};
 use crate::gen::net::{any, junk, Sample};
+use crate::model::aggregate::Aggregate;
 use crate::model::demand::{check_run_formula, Record};
 use crate::model::map::Map;
 use crate::model::net::Net;
@@ -18,7 +19,7 @@ fn compare<N: Net>(subject: &impl NetCalls<N>, net: &mut N, call: &Call, seen: &
     let reply = subject.call(net, call);
     assert_eq!(reply, expected, "{call:?}");
     assert_same(net, &due, call);
-    note(call, &reply, seen);
+    note(call, &reply, net, seen);
     reply
 }
 
@@ -33,13 +34,15 @@ fn assert_same<N: Net>(given: &N, due: &N, after: &impl std::fmt::Debug) {
     assert!(given == due, "k after {after:?}");
 }
 
-fn note(call: &Call, reply: &Reply, seen: &mut Coverage) {
-    match (call, reply) {
-        (_, Reply::Step(Ok(step))) => seen.note("kind", step.kind),
-        (_, Reply::Draw(Ok(step))) => seen.note("kind drawn", step.kind),
-        (_, Reply::Run(run)) if run.refusal.is_some() && run.steps > 0 => seen.note("run left the form", 11),
-        (_, Reply::Run(run)) if run.at_rest => seen.note("run to rest", 0),
+fn note<N: Net>(call: &Call, reply: &Reply, net: &N, seen: &mut Coverage) {
+    match reply {
+        Reply::Step(Ok(step)) => seen.note("kind", step.kind),
+        Reply::Draw(Ok(step)) => seen.note("kind drawn", step.kind),
+        Reply::Run(run) if run.at_rest => seen.note("run to rest", 0),
         _ => {}
+    }
+    if let Some(excess) = excess_reached(reply, net) {
+        seen.note(excess, reply.number());
     }
     let name = match call {
         Call::Step(_) => "step",
@@ -47,6 +50,16 @@ fn note(call: &Call, reply: &Reply, seen: &mut Coverage) {
         Call::Run(_) => "run",
     };
     seen.note(name, reply.number());
+}
+
+/// By what a call that made a step left the form: a step or a draw with 0, a run with 11.
+fn excess_reached<N: Net>(reply: &Reply, net: &N) -> Option<&'static str> {
+    let was_in_form = match reply {
+        Reply::Step(result) | Reply::Draw(result) => result.is_ok(),
+        Reply::Run(run) => run.steps > 0,
+    };
+    let stations = if was_in_form { &net.stations()[..net.k().into()] } else { &[] };
+    stations.iter().find_map(|station| excess(station.held))
 }
 
 /// The fresh net of a map handed over, laid over anything.
@@ -86,7 +99,9 @@ pub fn hostile<N: Sample>(subject: &impl NetCalls<N>, count: u64) {
     seen.require("step", [0, 11, 12, 13]);
     seen.require("draw", [0, 11, 14]);
     seen.require("run", [0, 11]);
-    seen.require("run left the form", [11]);
+    for excess in EXCESSES {
+        seen.require(excess, [0, 11]);
+    }
     require_kinds::<N>(&seen);
 }
 
@@ -139,8 +154,8 @@ pub fn list<N: Sample>(
 
 /// One full run on 64 stations all linked, and demand 3 on it.
 pub fn full_run<N: Sample>(subject: &impl NetCalls<N>) {
-    let map = all_linked(64);
     for_cases(2, |rng| {
+        let map = all_linked_mixed(rng);
         let mut seen = Coverage::default();
         let mut net: N = fresh(subject, rng, &map, &mut seen);
         let before = net.clone();
@@ -152,19 +167,19 @@ pub fn full_run<N: Sample>(subject: &impl NetCalls<N>) {
     });
 }
 
-/// Both kinds of net report the same number for the same map, in any order of steps.
+/// Both kinds of net report the same for the same map, in any order of steps.
 pub fn kinds_agree<A: Sample, B: Sample>(left: &impl NetCalls<A>, right: &impl NetCalls<B>, count: u64) {
     for_cases(count, |rng| {
         let map = accepted(rng);
-        assert_eq!(reported(left, rng, &map), reported(right, rng, &map), "the number reported for {map:?}");
+        assert_eq!(reported(left, rng, &map), reported(right, rng, &map), "what is reported for {map:?}");
     });
 }
 
-/// The number that a whole wave in a random order reports.
-fn reported<N: Sample>(subject: &impl NetCalls<N>, rng: &mut Rng, map: &Map) -> u64 {
+/// What a whole wave in a random order reports.
+fn reported<N: Sample>(subject: &impl NetCalls<N>, rng: &mut Rng, map: &Map) -> Aggregate {
     let mut net: N = junk(rng);
     subject.fresh(map, &mut net).expect("the map is accepted");
     let draws = call::draws(rng, Record::whole(map));
     assert!(subject.run(&mut net, &draws).at_rest, "a whole wave comes to rest");
-    net.stations()[0].sum
+    net.stations()[0].held
 }

@@ -2,7 +2,7 @@
 
 use super::Coverage;
 use crate::gen::bytes::{input, of_length};
-use crate::gen::map::all_linked;
+use crate::gen::map::all_linked_mixed;
 use crate::model::text::{output, INPUT_LIMIT};
 use crate::rng::{for_cases, Rng};
 use std::io::{Read, Write};
@@ -118,7 +118,8 @@ pub fn length_limit(program: &Program) {
     for_cases(2, |rng| {
         for (length, number) in [(INPUT_LIMIT, 0), (INPUT_LIMIT + 1, 17)] {
             let mut seen = Coverage::default();
-            let input = of_length(rng, &all_linked(64), length);
+            let map = all_linked_mixed(rng);
+            let input = of_length(rng, &map, length);
             compare(program, rng, &input, &mut seen);
             seen.require("program", [number]);
         }

@@ -1,8 +1,9 @@
 //! All five events: result, values and whole record.
 
-use super::Coverage;
+use super::{excess, Coverage, EXCESSES};
 use crate::calls::{Model, StationCalls};
-use crate::gen::station::{event, events, extremes, process, NUMBERS, SUMS};
+use crate::gen::station::{event, events, extreme_events, extremes, process};
+use crate::model::aggregate::Aggregate;
 use crate::model::refusal::number;
 use crate::model::station::{Event, Process};
 use crate::rng::for_cases;
@@ -12,7 +13,16 @@ fn compare(subject: &impl StationCalls, process: Process, event: Event, seen: &m
     let expected = Model.event(&mut due, event);
     let answer = subject.event(&mut given, event);
     assert_eq!((answer, given), (expected, due), "{event:?} on {process:?}");
-    seen.note(name(event), number(&answer));
+    let number = number(&answer);
+    seen.note(name(event), number);
+    let looked_at = match event {
+        _ if answer.is_ok() => given.station.held,
+        Event::TakeAnswer(gathered) if number == 12 => gathered,
+        _ => process.station.held,
+    };
+    if let Some(excess) = excess(looked_at) {
+        seen.note(excess, number);
+    }
     given
 }
 
@@ -27,22 +37,25 @@ fn name(event: Event) -> &'static str {
 }
 
 fn require_all(seen: &Coverage) {
-    for event in events(0, 0) {
+    let events = events(0, Aggregate::default());
+    for event in events {
         seen.require(name(event), [0, 11, 13]);
     }
-    for event in &events(0, 0)[..3] {
+    for event in &events[..3] {
         seen.require(name(*event), [12]);
+    }
+    for excess in EXCESSES {
+        seen.require(excess, [0, 11, 12]);
     }
 }
 
 /// Every field of the record, and every argument, at its extremes.
 pub fn at_extremes(subject: &impl StationCalls) {
     let mut seen = Coverage::default();
+    let events = extreme_events();
     for process in extremes() {
-        for (other, sum) in NUMBERS.into_iter().zip(SUMS) {
-            for event in events(other, sum) {
-                compare(subject, process, event, &mut seen);
-            }
+        for &event in &events {
+            compare(subject, process, event, &mut seen);
         }
     }
     require_all(&seen);

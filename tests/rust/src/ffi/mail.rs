@@ -7,12 +7,13 @@ use crate::model::mail::{Mail, Outbox};
 use crate::model::net::Step;
 use crate::model::PLACES;
 
-/// The sets and the sums of all senders.
+/// The sets of all senders, and what their answers bring.
 #[derive(Clone)]
 #[repr(C)]
 pub struct Words {
     starts: [u64; PLACES],
     answers: [u64; PLACES],
+    missing: [[u64; PLACES]; PLACES],
     sums: [[u64; PLACES]; PLACES],
 }
 
@@ -37,13 +38,19 @@ impl Words {
         Words {
             starts: std::array::from_fn(|sender| outboxes[sender].starts),
             answers: std::array::from_fn(|sender| outboxes[sender].answers),
+            missing: std::array::from_fn(|sender| outboxes[sender].missing),
             sums: std::array::from_fn(|sender| outboxes[sender].sums),
         }
     }
 
     fn outboxes(&self) -> Vec<Outbox> {
-        let sets = self.starts.iter().zip(&self.answers).zip(&self.sums);
-        sets.map(|((&starts, &answers), &sums)| Outbox { starts, answers, sums }).collect()
+        let outbox = |sender: usize| Outbox {
+            starts: self.starts[sender],
+            answers: self.answers[sender],
+            missing: self.missing[sender],
+            sums: self.sums[sender],
+        };
+        (0..PLACES).map(outbox).collect()
     }
 }
 

@@ -3,6 +3,7 @@
 use super::lending::{lend_mut, LaidOut, Packed};
 use super::Library;
 use crate::calls::StationCalls;
+use crate::model::aggregate;
 use crate::model::refusal::Refusal;
 use crate::model::station::{self as model, Answer, Event};
 
@@ -10,6 +11,7 @@ use crate::model::station::{self as model, Answer, Event};
 #[repr(C)]
 pub struct Aggregate {
     sum: u64,
+    missing: u8,
 }
 
 #[derive(Clone, Copy)]
@@ -37,17 +39,31 @@ extern "C" {
     fn tally_process_report(process: *mut Process) -> Packed;
 }
 
+impl LaidOut for aggregate::Aggregate {
+    type Layout = Aggregate;
+
+    fn lay_out(&self) -> Aggregate {
+        let aggregate::Aggregate { sum, missing } = *self;
+        Aggregate { sum, missing }
+    }
+
+    fn take_back(layout: &Aggregate) -> aggregate::Aggregate {
+        let Aggregate { sum, missing } = *layout;
+        aggregate::Aggregate { sum, missing }
+    }
+}
+
 impl LaidOut for model::Station {
     type Layout = Station;
 
     fn lay_out(&self) -> Station {
-        let model::Station { sum, unstarted, parent, waits, state } = *self;
-        Station { held: Aggregate { sum }, unstarted, parent, waits, state }
+        let model::Station { held, unstarted, parent, waits, state } = *self;
+        Station { held: held.lay_out(), unstarted, parent, waits, state }
     }
 
     fn take_back(layout: &Station) -> model::Station {
-        let Station { held: Aggregate { sum }, unstarted, parent, waits, state } = *layout;
-        model::Station { sum, unstarted, parent, waits, state }
+        let Station { held, unstarted, parent, waits, state } = *layout;
+        model::Station { held: LaidOut::take_back(&held), unstarted, parent, waits, state }
     }
 }
 
@@ -63,10 +79,10 @@ impl LaidOut for model::Process {
     }
 }
 
-/// An answer and a report come with the parent; the sum given is the one that the record holds then.
+/// An answer and a report come with the parent; what they give is what the record holds then.
 fn answer(packed: Packed, process: &Process) -> Result<Option<Answer>, Refusal> {
     let parent = packed.given()?.try_into().expect("a parent");
-    Ok(Some(Answer { parent, sum: process.station.held.sum }))
+    Ok(Some(Answer { parent, gathered: LaidOut::take_back(&process.station.held) }))
 }
 
 impl StationCalls for Library {
@@ -76,7 +92,7 @@ impl StationCalls for Library {
                 match event {
                     Event::TakeStart(from) => tally_process_take_start(process, from),
                     Event::SendStart(to) => tally_process_send_start(process, to),
-                    Event::TakeAnswer(sum) => tally_process_take_answer(process, Aggregate { sum }),
+                    Event::TakeAnswer(gathered) => tally_process_take_answer(process, gathered.lay_out()),
                     Event::SendAnswer => tally_process_send_answer(process),
                     Event::Report => tally_process_report(process),
                 }

@@ -9,7 +9,7 @@ use crate::rng::Rng;
 
 /// Bytes to read a map from: zeros, anything, or a map, whose rules may be broken and whose bytes may be damaged.
 pub fn lent(rng: &mut Rng) -> Vec<u8> {
-    let length = rng.index(900);
+    let length = if rng.chance(30) { rng.index(TRAILER + 1) } else { rng.index(900) };
     match rng.below(20) {
         0 => return vec![0; length],
         1 => return rng.bytes(length),

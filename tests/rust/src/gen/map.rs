@@ -1,8 +1,12 @@
 //! Maps: accepted ones of every shape and size, and ones that break the rules 3, 7 to 10.
 
+use crate::model::aggregate::NO_READING;
 use crate::model::map::Map;
 use crate::model::{set, MOST_STATIONS, PLACES};
 use crate::rng::Rng;
+
+/// The largest count that is a reading.
+pub const LARGEST_COUNT: u32 = NO_READING - 1;
 
 /// Links between the places of a shape, before the stations are dealt out.
 type Links = Vec<(u8, u8)>;
@@ -30,13 +34,22 @@ pub fn accepted_of(rng: &mut Rng, k: u8) -> Map {
     map
 }
 
-/// All stations linked to each other, with the largest counts.
-pub fn all_linked(k: u8) -> Map {
-    let mut map = Map::empty(k, 1);
-    for (a, b) in clique(k) {
+/// All 64 stations linked to each other, with one count for all.
+pub fn all_linked(count: u32) -> Map {
+    let mut map = Map::empty(MOST_STATIONS, 1);
+    for (a, b) in clique(MOST_STATIONS) {
         link(&mut map, a, b);
     }
-    map.counts[..k.into()].fill(u32::MAX);
+    map.counts.fill(count);
+    map
+}
+
+/// The same with the largest count or no reading at each: the longest lines come of it.
+pub fn all_linked_mixed(rng: &mut Rng) -> Map {
+    let mut map = all_linked(LARGEST_COUNT);
+    for count in &mut map.counts {
+        *count = rng.pick(&[LARGEST_COUNT, LARGEST_COUNT, NO_READING]);
+    }
     map
 }
 
@@ -86,12 +99,13 @@ fn permutation(rng: &mut Rng, k: u8) -> Vec<u8> {
 }
 
 fn fill_counts(rng: &mut Rng, map: &mut Map) {
-    let style = rng.below(4);
+    let style = rng.below(5);
     for count in &mut map.counts[..map.k.into()] {
         *count = match style {
             0 => rng.below(20) as u32,
-            1 => u32::MAX,
-            2 => rng.pick(&[0, 1, u32::MAX - 1, u32::MAX]),
+            1 => rng.pick(&[0, 1, LARGEST_COUNT, NO_READING]),
+            2 => NO_READING,
+            3 if rng.chance(30) => NO_READING,
             _ => rng.bits() as u32,
         };
     }
@@ -100,7 +114,7 @@ fn fill_counts(rng: &mut Rng, map: &mut Map) {
 /// Anything past k: writing ignores it.
 pub fn litter(rng: &mut Rng, map: &mut Map) {
     for place in usize::from(map.k)..PLACES {
-        map.counts[place] = rng.bits() as u32;
+        map.counts[place] = if rng.chance(50) { NO_READING } else { rng.bits() as u32 };
         map.neighbours[place] = rng.bits();
     }
 }

@@ -1,5 +1,7 @@
-//! Generators: maps good and damaged, station records, words of mail, nets, calls, and inputs of the program.
+//! Generators: maps good and damaged, what is gathered, station records, words of mail, nets, calls, and inputs of the
+//! program.
 
+pub mod aggregate;
 pub mod bytes;
 pub mod call;
 mod mail;

@@ -1,14 +1,15 @@
-//! Nets of both kinds: reachable, in form but not reachable, with sums near 2^62, with anything where nothing may look,
-//! and out of form in one field.
+//! Nets of both kinds: reachable, in form but not reachable, with sums or missing numbers near their bounds, with anything
+//! where nothing may look, and out of form in one field.
 
+use super::aggregate::{self, BOUNDS};
 use super::mail::{self, SPARSITIES};
 use super::{call, map, station};
 use crate::model::demand::Record;
-use crate::model::mail::{Mail, Message};
+use crate::model::mail::Mail;
 use crate::model::meet::Meet;
 use crate::model::net::Net;
 use crate::model::station::Station;
-use crate::model::{PLACES, SUM_LIMIT};
+use crate::model::PLACES;
 use crate::rng::Rng;
 
 /// A net is taken no further from fresh than this: whole waves of large maps take too long to make by the thousand.
@@ -73,8 +74,7 @@ impl Sample for Mail {
         }
         let sender = rng.station(self.k);
         let receiver = (sender + 1 + rng.station(self.k - 1)) % self.k;
-        let sum = rng.pick(&station::SUMS[3..]);
-        self.outboxes[usize::from(sender)].post(receiver, Message::Answer(sum));
+        mail::spoil(rng, &mut self.outboxes[usize::from(sender)], receiver);
         true
     }
 }
@@ -92,7 +92,7 @@ pub fn any<N: Sample>(rng: &mut Rng) -> N {
         nudge(rng, &mut net);
     }
     if rng.chance(25) {
-        near_limit(rng, &mut net);
+        near_bound(rng, &mut net);
     }
     if rng.chance(30) {
         net.litter(rng);
@@ -137,12 +137,12 @@ fn nudge<N: Sample>(rng: &mut Rng, net: &mut N) {
     station::nudge(rng, &mut net.stations_mut()[usize::from(own)], own, k);
 }
 
-/// Sums that an answer takes over the limit.
-fn near_limit<N: Sample>(rng: &mut Rng, net: &mut N) {
-    let k = usize::from(net.k());
+/// Sums or missing numbers that an answer takes over their bound.
+fn near_bound<N: Sample>(rng: &mut Rng, net: &mut N) {
+    let (k, bound) = (usize::from(net.k()), rng.pick(&BOUNDS));
     for station in &mut net.stations_mut()[..k] {
         if rng.chance(70) {
-            station.sum = SUM_LIMIT - 1 - rng.below(3);
+            station.held = aggregate::near(rng, bound);
         }
     }
 }

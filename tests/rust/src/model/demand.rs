@@ -54,7 +54,11 @@ impl<'a> Record<'a> {
     fn made<N: Net>(&mut self, step: Step, net: &N) {
         self.steps.push(step);
         if !self.has_reported() {
-            assert_eq!(net.outstanding(), self.map.total(), "before the report the sums add up to the map's total");
+            assert_eq!(
+                net.outstanding(),
+                self.map.total(),
+                "before the report what is held adds up to the map's total"
+            );
         }
     }
 
@@ -74,7 +78,7 @@ impl<'a> Record<'a> {
         assert_eq!(reported, self.steps.len() == Record::whole(self.map), "all steps are made just when it was");
         if reported {
             assert_eq!(self.steps.last().map(|step| step.kind), Some(self.report), "the report is last");
-            assert_eq!(net.stations()[usize::from(ROOT)].sum, self.map.total(), "the number reported is the total");
+            assert_eq!(net.stations()[usize::from(ROOT)].held, self.map.total(), "what is reported is the total");
             assert_eq!(messages + 1, Record::whole(self.map), "each link carried one message each way");
         }
     }

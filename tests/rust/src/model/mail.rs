@@ -1,10 +1,11 @@
 //! Stations with mail (document 01, after document 001, section 7): a delivery is one step, its posts included. The
 //! boxes are read from words and written to words; every array of words is a net's.
 
+use super::aggregate::Aggregate;
 use super::map::Map;
 use super::net::{are_well_formed, fresh_stations, unfinished_total, Net, Step};
 use super::station::{Station, ACTIVE, ASLEEP, FINISHED};
-use super::{set, PLACES, ROOT, SUM_LIMIT};
+use super::{set, PLACES, ROOT};
 
 pub const DELIVERY: u8 = 1;
 pub const REPORT: u8 = 2;
@@ -12,7 +13,7 @@ pub const REPORT: u8 = 2;
 #[derive(Clone, Copy, PartialEq, Eq, Debug)]
 pub enum Message {
     Start,
-    Answer(u64),
+    Answer(Aggregate),
 }
 
 /// A box, empty or full.
@@ -25,37 +26,46 @@ pub struct Outbox {
     pub starts: u64,
     /// Those to which an answer waits, unless a start does.
     pub answers: u64,
-    /// What an answer to each receiver brings; beside no answer it is not looked at.
+    /// The missing number that an answer to each receiver brings, in the lowest byte; the others are not looked at.
+    pub missing: [u64; PLACES],
+    /// The sum that it brings. Beside no answer neither word is looked at.
     pub sums: [u64; PLACES],
 }
 
 impl Outbox {
-    pub const EMPTY: Outbox = Outbox { starts: 0, answers: 0, sums: [0; PLACES] };
+    pub const EMPTY: Outbox = Outbox { starts: 0, answers: 0, missing: [0; PLACES], sums: [0; PLACES] };
 
     /// Where both bits are set the box holds the start.
     pub fn mailbox(&self, receiver: u8) -> Mailbox {
         if set::contains(self.starts, receiver) {
             Some(Message::Start)
         } else if set::contains(self.answers, receiver) {
-            Some(Message::Answer(self.sums[usize::from(receiver)]))
+            Some(Message::Answer(self.gathered(receiver)))
         } else {
             None
         }
     }
 
-    /// Both bits go, and the word of the sum stays.
+    /// What the words for an answer say.
+    fn gathered(&self, receiver: u8) -> Aggregate {
+        let at = usize::from(receiver);
+        Aggregate { sum: self.sums[at], missing: self.missing[at] as u8 }
+    }
+
+    /// Both bits go, and both words stay.
     fn empty(&mut self, receiver: u8) {
         self.starts = set::without(self.starts, receiver);
         self.answers = set::without(self.answers, receiver);
     }
 
-    /// A post replaces what the box held; a start leaves the word of the sum.
+    /// A post replaces what the box held; a start leaves both words, an answer fills them whole.
     pub fn post(&mut self, receiver: u8, message: Message) {
         self.empty(receiver);
         match message {
             Message::Start => self.starts |= set::singleton(receiver),
-            Message::Answer(sum) => {
+            Message::Answer(Aggregate { sum, missing }) => {
                 self.answers |= set::singleton(receiver);
+                self.missing[usize::from(receiver)] = missing.into();
                 self.sums[usize::from(receiver)] = sum;
             }
         }
@@ -80,11 +90,14 @@ impl Mail {
         &mut self.outboxes[usize::from(sender)]
     }
 
-    /// In the boxes that exist: of ordered pairs of different stations below k.
-    fn messages(&self) -> impl Iterator<Item = Message> + '_ {
+    /// What the answers bring that wait in the boxes that exist: of ordered pairs of different stations below k.
+    fn answers(&self) -> impl Iterator<Item = Aggregate> + '_ {
         (0..self.k).zip(&self.outboxes).flat_map(|(sender, outbox)| {
             let receivers = (0..self.k).filter(move |&receiver| receiver != sender);
-            receivers.filter_map(|receiver| outbox.mailbox(receiver))
+            receivers.filter_map(|receiver| match outbox.mailbox(receiver) {
+                Some(Message::Answer(gathered)) => Some(gathered),
+                _ => None,
+            })
         })
     }
 
@@ -93,7 +106,7 @@ impl Mail {
         self.outbox(sender).empty(receiver);
         let station = &mut self.stations[usize::from(receiver)];
         match message {
-            Some(Message::Answer(sum)) => station.take_answer(sum),
+            Some(Message::Answer(gathered)) => station.take_answer(gathered),
             _ if station.state == ASLEEP => {
                 station.wake(sender);
                 let others = set::without(station.unstarted, sender);
@@ -110,7 +123,7 @@ impl Mail {
         let station = &mut self.stations[usize::from(receiver)];
         if receiver != ROOT && station.waits == 0 {
             let answer = station.finish();
-            self.outbox(receiver).post(answer.parent, Message::Answer(answer.sum));
+            self.outbox(receiver).post(answer.parent, Message::Answer(answer.gathered));
         }
     }
 }
@@ -141,8 +154,7 @@ impl Net for Mail {
     }
 
     fn is_well_formed(&self) -> bool {
-        are_well_formed(self.k, &self.stations)
-            && self.messages().all(|message| !matches!(message, Message::Answer(sum) if sum >= SUM_LIMIT))
+        are_well_formed(self.k, &self.stations) && self.answers().all(Aggregate::is_bounded)
     }
 
     fn is_allowed(&self, step: Step) -> bool {
@@ -166,9 +178,8 @@ impl Net for Mail {
         }
     }
 
-    /// Sums of stations not finished, and sums under way.
-    fn outstanding(&self) -> u64 {
-        let posted = self.messages().map(|message| if let Message::Answer(sum) = message { sum } else { 0 });
-        unfinished_total(self.k, &self.stations) + posted.sum::<u64>()
+    /// What stations not finished hold, and what is under way.
+    fn outstanding(&self) -> Aggregate {
+        self.answers().fold(unfinished_total(self.k, &self.stations), Aggregate::join)
     }
 }

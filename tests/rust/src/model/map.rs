@@ -1,5 +1,6 @@
 //! The line map (document 01): its stored form, reading, acceptance and writing.
 
+use super::aggregate::{Aggregate, NO_READING};
 use super::refusal::{Cause, Refusal};
 use super::{set, MOST_STATIONS, PLACES, ROOT};
 
@@ -31,8 +32,12 @@ impl Map {
         self
     }
 
-    pub fn total(&self) -> u64 {
-        self.counts[..self.k.into()].iter().map(|&count| u64::from(count)).sum()
+    /// What the desk is to report (document 02, request 1): "the sum over heads with a reading, together with how many had
+    /// none".
+    pub fn total(&self) -> Aggregate {
+        let (missing, readings): (Vec<u32>, Vec<u32>) =
+            self.counts[..self.k.into()].iter().partition(|&&count| count == NO_READING);
+        Aggregate { sum: readings.into_iter().map(u64::from).sum(), missing: missing.len() as u8 }
     }
 
     /// m of an accepted map: each link is named from both its ends.

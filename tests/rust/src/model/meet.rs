@@ -1,5 +1,6 @@
 //! Stations that meet (document 01; document 001, Figure 2): a step is the sender's event and the receiver's together.
 
+use super::aggregate::Aggregate;
 use super::map::Map;
 use super::net::{are_well_formed, fresh_stations, unfinished_total, Net, Step};
 use super::station::{Station, ACTIVE, ASLEEP};
@@ -61,7 +62,7 @@ impl Net for Meet {
             }
             ANSWER => {
                 let answer = self.stations[sender].finish();
-                self.stations[receiver].take_answer(answer.sum);
+                self.stations[receiver].take_answer(answer.gathered);
             }
             _ => {
                 self.stations[sender].finish();
@@ -69,7 +70,7 @@ impl Net for Meet {
         }
     }
 
-    fn outstanding(&self) -> u64 {
+    fn outstanding(&self) -> Aggregate {
         unfinished_total(self.k, &self.stations)
     }
 }

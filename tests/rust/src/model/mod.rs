@@ -1,5 +1,6 @@
-//! The whole product after document 01: maps, one station, both kinds of net, the program, and the claims of demand 3.
+//! The whole product after documents 01 and 02: maps, one station, both kinds of net, the program, and the claims of demand 3.
 
+pub mod aggregate;
 pub mod demand;
 pub mod mail;
 pub mod map;
@@ -15,9 +16,6 @@ pub const PLACES: usize = 64;
 
 /// For one station 64 stands for k (document 01, "Causes and numbers").
 pub const MOST_STATIONS: u8 = PLACES as u8;
-
-/// Sums in form are below 2^62, so that adding two of them never wraps.
-pub const SUM_LIMIT: u64 = 1 << 62;
 
 /// Station 0, the desk of document 01.
 pub const ROOT: u8 = 0;

@@ -1,5 +1,6 @@
 //! What both kinds of net share: fresh stations, form, the listing of allowed steps, steps, draws and runs.
 
+use super::aggregate::Aggregate;
 use super::mail::Outbox;
 use super::map::{self, Map};
 use super::refusal::{admit, Cause, Refusal};
@@ -49,8 +50,8 @@ pub trait Net: Clone + PartialEq + Debug {
     /// Makes an allowed step.
     fn make(&mut self, step: Step);
 
-    /// The sums not yet handed on: they add up to the map's total before the report.
-    fn outstanding(&self) -> u64;
+    /// What is not yet handed on: it adds up to the map's total before the report.
+    fn outstanding(&self) -> Aggregate;
 
     /// The fresh net of a map handed over: refusals 3, 7 to 10.
     fn fresh(map: &Map) -> Result<Self, Refusal> {
@@ -116,7 +117,8 @@ pub fn fresh_stations(map: &Map) -> [Station; PLACES] {
     let mut stations = [Station::default(); PLACES];
     for ((station, &count), &neighbours) in stations.iter_mut().zip(&map.counts).zip(map.sets()) {
         let waits = set::size(neighbours);
-        *station = Station { sum: count.into(), unstarted: neighbours, parent: ROOT, waits, state: ASLEEP };
+        let held = Aggregate::of(count);
+        *station = Station { held, unstarted: neighbours, parent: ROOT, waits, state: ASLEEP };
     }
     stations[usize::from(ROOT)].state = ACTIVE;
     stations
@@ -127,8 +129,8 @@ pub fn are_well_formed(k: u8, stations: &[Station; PLACES]) -> bool {
     (1..=MOST_STATIONS).contains(&k) && (0..k).zip(stations).all(|(own, station)| station.is_well_formed(own, k))
 }
 
-/// Sums of the stations below k that are not finished.
-pub fn unfinished_total(k: u8, stations: &[Station; PLACES]) -> u64 {
-    let below_k = &stations[..k.into()];
-    below_k.iter().filter(|station| station.state != FINISHED).map(|station| station.sum).sum()
+/// What the stations below k that are not finished hold.
+pub fn unfinished_total(k: u8, stations: &[Station; PLACES]) -> Aggregate {
+    let unfinished = stations[..k.into()].iter().filter(|station| station.state != FINISHED);
+    unfinished.map(|station| station.held).fold(Aggregate::default(), Aggregate::join)
 }

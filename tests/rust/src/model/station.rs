@@ -1,7 +1,8 @@
 //! One station (document 01): the process of document 001, Definition 3.1, with its refusals 11, 12, 13.
 
+use super::aggregate::Aggregate;
 use super::refusal::{admit, Refusal};
-use super::{set, MOST_STATIONS, ROOT, SUM_LIMIT};
+use super::{set, MOST_STATIONS, ROOT};
 
 pub const ASLEEP: u8 = 0;
 pub const ACTIVE: u8 = 1;
@@ -10,7 +11,8 @@ pub const FINISHED: u8 = 2;
 /// What a net holds of a station: all of it but its own number.
 #[derive(Clone, Copy, PartialEq, Eq, Debug, Default)]
 pub struct Station {
-    pub sum: u64,
+    /// What it has gathered: sum and missing number.
+    pub held: Aggregate,
     /// The set still to be started; in a mail net, the neighbours.
     pub unstarted: u64,
     pub parent: u8,
@@ -32,7 +34,7 @@ impl Station {
             && self.parent < k
             && set::is_within(self.unstarted, k)
             && self.waits <= 64
-            && self.sum < SUM_LIMIT
+            && self.held.is_bounded()
             && !set::contains(self.unstarted, own)
             && (own == ROOT || self.parent != own)
     }
@@ -65,8 +67,8 @@ impl Station {
     }
 
     /// Line 3.
-    pub fn take_answer(&mut self, sum: u64) {
-        self.sum += sum;
+    pub fn take_answer(&mut self, gathered: Aggregate) {
+        self.held = self.held.join(gathered);
         self.wait_less();
     }
 
@@ -77,7 +79,7 @@ impl Station {
     /// Lines 5 and 6.
     pub fn finish(&mut self) -> Answer {
         self.state = FINISHED;
-        Answer { parent: self.parent, sum: self.sum }
+        Answer { parent: self.parent, gathered: self.held }
     }
 }
 
@@ -85,7 +87,7 @@ impl Station {
 #[derive(Clone, Copy, PartialEq, Eq, Debug)]
 pub struct Answer {
     pub parent: u8,
-    pub sum: u64,
+    pub gathered: Aggregate,
 }
 
 /// The record that a controller keeps and lends to each event.
@@ -99,7 +101,7 @@ pub struct Process {
 pub enum Event {
     TakeStart(u8),
     SendStart(u8),
-    TakeAnswer(u64),
+    TakeAnswer(Aggregate),
     SendAnswer,
     Report,
 }
@@ -116,7 +118,7 @@ impl Process {
         match event {
             Event::TakeStart(from) => station.take_start(from),
             Event::SendStart(to) => station.send_start(to),
-            Event::TakeAnswer(sum) => station.take_answer(sum),
+            Event::TakeAnswer(gathered) => station.take_answer(gathered),
             Event::SendAnswer | Event::Report => return Ok(Some(station.finish())),
         }
         Ok(None)
@@ -135,11 +137,11 @@ impl Process {
     }
 }
 
-/// Number 12: a station number not below 64, or a sum of 2^62 or more.
+/// Number 12: a station number not below 64, a sum of 2^62 or more, or a missing number above 64.
 fn is_in_range(event: Event) -> bool {
     match event {
         Event::TakeStart(other) | Event::SendStart(other) => other < MOST_STATIONS,
-        Event::TakeAnswer(sum) => sum < SUM_LIMIT,
+        Event::TakeAnswer(gathered) => gathered.is_bounded(),
         Event::SendAnswer | Event::Report => true,
     }
 }

@@ -1,6 +1,7 @@
 //! The program (document 01): draws and a map on standard input, a line for each step of stations that meet on standard
 //! output.
 
+use super::aggregate::Aggregate;
 use super::map::{self, Map};
 use super::meet::{Meet, ANSWER, PASS, WAKE};
 use super::net::{Net, Step};
@@ -39,18 +40,18 @@ fn narrate(draws: &[u16], map: &Map) -> String {
     let mut steps = 0;
     for &draw in draws {
         let Ok(step) = net.draw(draw) else { break };
-        text += &line(step, net.stations[usize::from(step.sender)].sum);
+        text += &line(step, net.stations[usize::from(step.sender)].held);
         steps += 1;
     }
     text + &format!("lot {} steps {steps} links {}\n", map.lot, map.links())
 }
 
-/// The sender's sum is what it answers or reports.
-fn line(Step { kind, sender, receiver }: Step, sum: u64) -> String {
+/// What the sender holds, sum and missing number, is what it answers or reports.
+fn line(Step { kind, sender, receiver }: Step, Aggregate { sum, missing }: Aggregate) -> String {
     match kind {
         WAKE => format!("wake {sender} {receiver}\n"),
         PASS => format!("pass {sender} {receiver}\n"),
-        ANSWER => format!("answer {sender} {receiver} {sum}\n"),
-        _ => format!("report {sender} {sum}\n"),
+        ANSWER => format!("answer {sender} {receiver} {sum} {missing}\n"),
+        _ => format!("report {sender} {sum} {missing}\n"),
     }
 }

@@ -1,5 +1,6 @@
 //! A net of the model with a fault in its rules: whatever the fault does not name goes as in the model.
 
+use conformance::model::aggregate::Aggregate;
 use conformance::model::map::Map;
 use conformance::model::net::{Net, Step};
 use conformance::model::station::Station;
@@ -64,7 +65,7 @@ impl<N: Net, F: Fault<N>> Net for Faulty<N, F> {
         self.fault.make(&mut self.net, step);
     }
 
-    fn outstanding(&self) -> u64 {
+    fn outstanding(&self) -> Aggregate {
         self.net.outstanding()
     }
 }

@@ -4,87 +4,148 @@ use super::faulty::{self, Fault as _};
 use super::is_caught;
 use conformance::calls::{Model, NetCalls};
 use conformance::compare::net::{freshness, hostile};
-use conformance::model::mail::{Mail, Message, DELIVERY};
+use conformance::model::aggregate::{MOST_MISSING, SUM_LIMIT};
+use conformance::model::mail::{Mail, Message, Outbox, DELIVERY};
 use conformance::model::map::Map;
 use conformance::model::net::{Net, Run, Step};
 use conformance::model::refusal::Refusal;
 use conformance::model::station::ASLEEP;
-use conformance::model::{set, SUM_LIMIT};
+use conformance::model::{set, PLACES};
 
 /// Enough nets to meet each fault.
 const NETS: u64 = 1_000;
+
+/// The words of what answers bring.
+#[derive(Clone, Copy, PartialEq, Debug)]
+enum Plane {
+    Missing,
+    Sums,
+}
+
+const PLANES: [Plane; 2] = [Plane::Missing, Plane::Sums];
+
+impl Plane {
+    /// By receiver.
+    fn of(self, outbox: &mut Outbox) -> &mut [u64; PLACES] {
+        match self {
+            Plane::Missing => &mut outbox.missing,
+            Plane::Sums => &mut outbox.sums,
+        }
+    }
+
+    /// Whether what a word brings is out of form.
+    fn is_beyond(self, word: u64) -> bool {
+        match self {
+            Plane::Missing => word as u8 > MOST_MISSING,
+            Plane::Sums => word >= SUM_LIMIT,
+        }
+    }
+}
+
+/// Where a word stands that no call may look at: beside no answer, where both bits are set, or for no box.
+#[derive(Clone, Copy, PartialEq, Debug)]
+enum Stray {
+    BesideNothing,
+    BesideAStart,
+    PastK,
+    ToItself,
+}
+
+const STRAYS: [Stray; 4] = [Stray::BesideNothing, Stray::BesideAStart, Stray::PastK, Stray::ToItself];
+
+impl Stray {
+    /// By k, sender, receiver, and the bits for a start and an answer.
+    fn is_at(self, k: u8, sender: u8, receiver: u8, start: bool, answer: bool) -> bool {
+        let exists = sender < k && receiver < k && sender != receiver;
+        match self {
+            Stray::BesideNothing => exists && !start && !answer,
+            Stray::BesideAStart => exists && start && answer,
+            Stray::PastK => sender < k && receiver >= k && !start && answer,
+            Stray::ToItself => sender < k && sender == receiver && !start && answer,
+        }
+    }
+}
 
 #[derive(Clone, Copy, Default, PartialEq, Debug)]
 enum Fault {
     #[default]
     Nothing,
     EmptyingClearsOneSet,
-    EmptyingClearsTheSum,
+    EmptyingClears(Plane),
     StartPostedBesideTheAnswer,
-    StartPostedOverTheSum,
+    StartPostedOver(Plane),
     AnswerPostedBesideTheStart,
+    AnswerPostedWithout(Plane),
+    AnswerPostedIntoOneByte,
     BothReadAsTheAnswer,
-    StraySumOutOfForm,
-    ShadowedSumOutOfForm,
-    SumPastKOutOfForm,
-    SumToItselfOutOfForm,
+    MissingReadFromAllBytes,
+    OutOfForm(Stray, Plane),
+    AnswerUnbounded(Plane),
     DeliveryToItself,
     SetTrimmedToK,
     WordPastKCleared,
-    FreshLeavesTheSums,
+    FreshLeaves(Plane),
     RefusedFreshClearsTheSets,
 }
 
 /// Of the rules for a step.
-const FAULTS: [Fault; 13] = [
-    Fault::EmptyingClearsOneSet,
-    Fault::EmptyingClearsTheSum,
-    Fault::StartPostedBesideTheAnswer,
-    Fault::StartPostedOverTheSum,
-    Fault::AnswerPostedBesideTheStart,
-    Fault::BothReadAsTheAnswer,
-    Fault::StraySumOutOfForm,
-    Fault::ShadowedSumOutOfForm,
-    Fault::SumPastKOutOfForm,
-    Fault::SumToItselfOutOfForm,
-    Fault::DeliveryToItself,
-    Fault::SetTrimmedToK,
-    Fault::WordPastKCleared,
-];
+fn faults() -> Vec<Fault> {
+    let mut faults = vec![
+        Fault::EmptyingClearsOneSet,
+        Fault::StartPostedBesideTheAnswer,
+        Fault::AnswerPostedBesideTheStart,
+        Fault::AnswerPostedIntoOneByte,
+        Fault::BothReadAsTheAnswer,
+        Fault::MissingReadFromAllBytes,
+        Fault::DeliveryToItself,
+        Fault::SetTrimmedToK,
+        Fault::WordPastKCleared,
+    ];
+    for plane in PLANES {
+        faults.extend([Fault::EmptyingClears(plane), Fault::StartPostedOver(plane)]);
+        faults.extend([Fault::AnswerPostedWithout(plane), Fault::AnswerUnbounded(plane)]);
+        faults.extend(STRAYS.map(|stray| Fault::OutOfForm(stray, plane)));
+    }
+    faults
+}
 
 /// Of an opening.
-const FRESH_FAULTS: [Fault; 2] = [Fault::FreshLeavesTheSums, Fault::RefusedFreshClearsTheSets];
+const FRESH_FAULTS: [Fault; 3] =
+    [Fault::FreshLeaves(Plane::Missing), Fault::FreshLeaves(Plane::Sums), Fault::RefusedFreshClearsTheSets];
 
-/// Whether a sum of 2^62 or more stands somewhere: by sender, receiver, and their bits for a start and an answer.
-fn has_sum(net: &Mail, is_there: impl Fn(u8, u8, bool, bool) -> bool) -> bool {
-    (0..).zip(&net.outboxes).any(|(sender, outbox)| {
-        (0..).zip(&outbox.sums).any(|(receiver, &sum)| {
-            let (start, answer) = (set::contains(outbox.starts, receiver), set::contains(outbox.answers, receiver));
-            sum >= SUM_LIMIT && is_there(sender, receiver, start, answer)
-        })
-    })
+/// The net with its words changed.
+fn changed(net: &Mail, change: impl Fn(&mut Outbox)) -> Mail {
+    let mut changed = net.clone();
+    changed.outboxes.iter_mut().for_each(change);
+    changed
 }
 
 /// The net as it is read where the answer goes before the start.
 fn answers_first(net: &Mail) -> Mail {
-    let mut read = net.clone();
-    read.outboxes.iter_mut().for_each(|outbox| outbox.starts &= !outbox.answers);
-    read
+    changed(net, |outbox| outbox.starts &= !outbox.answers)
+}
+
+fn has_stray(net: &Mail, stray: Stray, plane: Plane) -> bool {
+    (0..).zip(net.outboxes.clone()).any(|(sender, mut outbox)| {
+        let Outbox { starts, answers, .. } = outbox;
+        (0..).zip(plane.of(&mut outbox)).any(|(receiver, &mut word)| {
+            let (start, answer) = (set::contains(starts, receiver), set::contains(answers, receiver));
+            plane.is_beyond(word) && stray.is_at(net.k, sender, receiver, start, answer)
+        })
+    })
 }
 
 impl faulty::Fault<Mail> for Fault {
     fn is_well_formed(self, net: &Mail) -> bool {
-        let k = net.k;
-        let exists = |sender, receiver| sender < k && receiver < k && sender != receiver;
-        let spoiled = match self {
-            Fault::BothReadAsTheAnswer => return answers_first(net).is_well_formed(),
-            Fault::StraySumOutOfForm => has_sum(net, |s, r, start, answer| exists(s, r) && !start && !answer),
-            Fault::ShadowedSumOutOfForm => has_sum(net, |s, r, start, answer| exists(s, r) && start && answer),
-            Fault::SumPastKOutOfForm => has_sum(net, |s, r, start, answer| s < k && r >= k && !start && answer),
-            Fault::SumToItselfOutOfForm => has_sum(net, |s, r, start, answer| s < k && s == r && !start && answer),
-            _ => false,
-        };
-        net.is_well_formed() && !spoiled
+        match self {
+            Fault::BothReadAsTheAnswer => answers_first(net).is_well_formed(),
+            Fault::MissingReadFromAllBytes => {
+                changed(net, |outbox| outbox.missing = outbox.missing.map(|word| word.min(255))).is_well_formed()
+            }
+            Fault::AnswerUnbounded(plane) => changed(net, |outbox| plane.of(outbox).fill(0)).is_well_formed(),
+            Fault::OutOfForm(stray, plane) => net.is_well_formed() && !has_stray(net, stray, plane),
+            _ => net.is_well_formed(),
+        }
     }
 
     fn is_allowed(self, net: &Mail, step: Step) -> bool {
@@ -108,19 +169,22 @@ impl faulty::Fault<Mail> for Fault {
         if sender == receiver {
             return;
         }
-        let (was_from, was_to) = (&before.outboxes[sender], &before.outboxes[receiver]);
+        let (was_from, mut was_to) = (before.outboxes[sender], before.outboxes[receiver]);
         let k = net.k;
         let parent = net.stations[receiver].parent;
+        let at_parent = usize::from(parent);
         let [from, to] = net.outboxes.get_disjoint_mut([sender, receiver]).expect("different stations");
         let posted = to.starts & !was_to.starts;
         match self {
             Fault::EmptyingClearsOneSet if set::contains(was_from.starts, step.receiver) => {
                 from.answers = was_from.answers
             }
-            Fault::EmptyingClearsTheSum => from.sums[receiver] = 0,
+            Fault::EmptyingClears(plane) => plane.of(from)[receiver] = 0,
             Fault::StartPostedBesideTheAnswer => to.answers |= was_to.answers & posted,
-            Fault::StartPostedOverTheSum => set::members(posted).for_each(|r| to.sums[usize::from(r)] = 0),
+            Fault::StartPostedOver(plane) => set::members(posted).for_each(|r| plane.of(to)[usize::from(r)] = 0),
             Fault::AnswerPostedBesideTheStart if set::contains(to.answers, parent) => to.starts |= was_to.starts,
+            Fault::AnswerPostedWithout(plane) => plane.of(to)[at_parent] = plane.of(&mut was_to)[at_parent],
+            Fault::AnswerPostedIntoOneByte => to.missing[at_parent] |= was_to.missing[at_parent] & !0xff,
             Fault::SetTrimmedToK => from.starts &= u64::MAX >> (64 - k),
             Fault::WordPastKCleared => net.outboxes.iter_mut().skip(k.into()).for_each(|outbox| outbox.answers = 0),
             _ => {}
@@ -132,9 +196,9 @@ impl NetCalls<Mail> for Fault {
     fn fresh(&self, map: &Map, net: &mut Mail) -> Result<(), Refusal> {
         let before = net.clone();
         let opened = Model.fresh(map, net);
-        for (outbox, was) in net.outboxes.iter_mut().zip(before.outboxes) {
+        for (outbox, mut was) in net.outboxes.iter_mut().zip(before.outboxes) {
             match self {
-                Fault::FreshLeavesTheSums => outbox.sums = was.sums,
+                Fault::FreshLeaves(plane) => *plane.of(outbox) = *plane.of(&mut was),
                 Fault::RefusedFreshClearsTheSets if opened.is_err() => outbox.starts = 0,
                 _ => {}
             }
@@ -163,7 +227,7 @@ fn the_faultless_passes() {
 
 #[test]
 fn comparison_catches_every_fault() {
-    for fault in FAULTS {
+    for fault in faults() {
         assert!(is_caught(|| hostile(&fault, NETS)), "{fault:?} passes");
     }
     for fault in FRESH_FAULTS {

@@ -1,9 +1,10 @@
-//! The tests' own tests: document 01's hollow programs and wrong turns, and the wrong turns of words, must not pass.
-//! Each is the model of a kind of net with one fault.
+//! The tests' own tests: document 01's hollow programs and wrong turns, those of missing readings, and those of words,
+//! must not pass. Each is the model of a station or of a kind of net with one fault.
 
 mod faulty;
 mod mail;
 mod meet;
+mod station;
 
 use std::panic::{catch_unwind, UnwindSafe};
 

@@ -1,10 +1,12 @@
-//! Stations that meet: document 01's hollow programs and wrong turns, against the comparison and against demand 3.
+//! Stations that meet: document 01's hollow programs and wrong turns, and those of missing readings, against the
+//! comparisons and against demand 3.
 
 use super::faulty::{self, Fault as _};
 use super::is_caught;
 use conformance::calls::{Model, NetCalls};
-use conformance::compare::net::{list, lists};
+use conformance::compare::net::{hostile, list, lists};
 use conformance::gen::map::accepted;
+use conformance::model::aggregate::{Aggregate, MOST_MISSING, NO_READING};
 use conformance::model::map::Map;
 use conformance::model::meet::{Meet, ANSWER, PASS, REPORT, WAKE};
 use conformance::model::net::{Net, Run, Step};
@@ -12,8 +14,9 @@ use conformance::model::refusal::{Cause, Refusal};
 use conformance::model::{set, ROOT};
 use conformance::rng::for_cases;
 
-/// Enough lists to meet each fault.
+/// Enough lists, and enough nets, to meet each fault.
 const LISTS: u64 = 40;
+const NETS: u64 = 1_000;
 
 #[derive(Clone, Copy, Default, PartialEq, Debug)]
 enum Fault {
@@ -29,9 +32,14 @@ enum Fault {
     StartTakenAsNewParent,
     NoStartToTheActive,
     AnswerBeforeTheStarts,
+    NoReadingAddedToTheSum,
+    MissingKeptBack,
+    MissingAddedAtTheReport,
+    MissingUnbounded,
+    MostMissingOutOfForm,
 }
 
-const FAULTS: [Fault; 10] = [
+const FAULTS: [Fault; 13] = [
     Fault::StepAlwaysRefused,
     Fault::StepLeavesTheNet,
     Fault::StepMakesTheWholeWave,
@@ -42,9 +50,27 @@ const FAULTS: [Fault; 10] = [
     Fault::StartTakenAsNewParent,
     Fault::NoStartToTheActive,
     Fault::AnswerBeforeTheStarts,
+    Fault::NoReadingAddedToTheSum,
+    Fault::MissingKeptBack,
+    Fault::MissingAddedAtTheReport,
 ];
 
+/// Of the form, which few lists from a fresh net come near to.
+const FORM_FAULTS: [Fault; 2] = [Fault::MissingUnbounded, Fault::MostMissingOutOfForm];
+
 impl faulty::Fault<Meet> for Fault {
+    fn is_well_formed(self, net: &Meet) -> bool {
+        let mut seen = net.clone();
+        for held in seen.stations.iter_mut().map(|station| &mut station.held) {
+            match self {
+                Fault::MissingUnbounded => held.missing = 0,
+                Fault::MostMissingOutOfForm if held.missing == MOST_MISSING => held.missing += 1,
+                _ => {}
+            }
+        }
+        seen.is_well_formed()
+    }
+
     fn is_allowed(self, net: &Meet, step: Step) -> bool {
         match (self, step.kind) {
             (Fault::NoStartToTheActive, PASS) => false,
@@ -58,6 +84,7 @@ impl faulty::Fault<Meet> for Fault {
     }
 
     fn make(self, net: &mut Meet, step: Step) {
+        let missing_before = net.stations[usize::from(step.receiver)].held.missing;
         net.make(step);
         let receiver = &mut net.stations[usize::from(step.receiver)];
         match (self, step.kind) {
@@ -65,7 +92,9 @@ impl faulty::Fault<Meet> for Fault {
                 receiver.waits = set::size(receiver.unstarted).saturating_sub(1);
             }
             (Fault::StartTakenAsNewParent, PASS) if step.receiver != ROOT => receiver.parent = step.sender,
-            (Fault::TotalFixedBeforehand, REPORT) => receiver.sum = 23,
+            (Fault::TotalFixedBeforehand, REPORT) => receiver.held = Aggregate { sum: 23, missing: 0 },
+            (Fault::MissingKeptBack, ANSWER) => receiver.held.missing = missing_before,
+            (Fault::MissingAddedAtTheReport, REPORT) => receiver.held.sum += u64::from(missing_before),
             _ => {}
         }
     }
@@ -73,7 +102,13 @@ impl faulty::Fault<Meet> for Fault {
 
 impl NetCalls<Meet> for Fault {
     fn fresh(&self, map: &Map, net: &mut Meet) -> Result<(), Refusal> {
-        Model.fresh(map, net)
+        Model.fresh(map, net)?;
+        if *self == Fault::NoReadingAddedToTheSum {
+            for held in net.stations.iter_mut().map(|station| &mut station.held).filter(|held| held.missing == 1) {
+                *held = Aggregate { sum: NO_READING.into(), missing: 0 };
+            }
+        }
+        Ok(())
     }
 
     fn step(&self, net: &mut Meet, step: Step) -> Result<Step, Refusal> {
@@ -109,13 +144,16 @@ impl NetCalls<Meet> for Fault {
 fn demand_3(fault: Fault) {
     for_cases(LISTS, |rng| {
         let map = accepted(rng);
-        list(&fault, rng, &map, Meet::set_up(&map), |net, call| fault.call(net, call));
+        let mut net = Meet::set_up(&map);
+        fault.fresh(&map, &mut net).expect("the map is accepted");
+        list(&fault, rng, &map, net, |net, call| fault.call(net, call));
     });
 }
 
 #[test]
 fn the_faultless_passes() {
     lists(&Fault::Nothing, LISTS);
+    hostile(&Fault::Nothing, NETS);
     demand_3(Fault::Nothing);
 }
 
@@ -123,6 +161,9 @@ fn the_faultless_passes() {
 fn comparison_catches_every_fault() {
     for fault in FAULTS {
         assert!(is_caught(|| lists(&fault, LISTS)), "{fault:?} passes");
+    }
+    for fault in FORM_FAULTS {
+        assert!(is_caught(|| hostile(&fault, NETS)), "{fault:?} passes");
     }
 }
 
