@@ -23,19 +23,21 @@ extern "C" {
 #define TALLY_NUMBER(answer) ((uint8_t)(answer))
 #define TALLY_VALUE(answer) ((answer) >> 8)
 
-enum { TALLY_STATIONS = 64 };
+enum { TALLY_STATIONS = 64, TALLY_CLASSES = 8 };
 
 /* Bytes of stack that no call takes more than, its arguments included: events of a station, calls on maps, on stations that meet, and on
    stations with mail. */
-enum { TALLY_PROCESS_STACK = 1024, TALLY_MAP_STACK = 4096, TALLY_RENDEZVOUS_STACK = 16384, TALLY_MAILBOX_STACK = 16384 };
+enum { TALLY_PROCESS_STACK = 1024, TALLY_MAP_STACK = 16384, TALLY_RENDEZVOUS_STACK = 32768, TALLY_MAILBOX_STACK = 32768 };
 
 /* ---- one station --------------------------------------------------------------------------------------------------------------------
 
-   What a station has gathered: a sum of counts, and how many readings were missing. A count gathers itself and none, {count, 0};
-   TALLY_NO_READING gathers nothing and one, {0, 1}. In form are sums below 2^62 and missing numbers up to TALLY_MOST_MISSING. */
+   What a station has gathered, class by class: a sum of counts, and how many readings were missing. A count gathers a sum of itself and
+   none missing; TALLY_NO_READING gathers a sum of 0 and one missing. How many classes are in use, 1 to TALLY_CLASSES, is said by the record
+   or the net that the station stands in. In form are, in these, sums below 2^62 and missing numbers up to TALLY_MOST_MISSING. What stands
+   past them is not looked at, and every event and step leaves it as it was. */
 struct tally_aggregate {
-    uint64_t sum;
-    uint8_t missing;
+    uint64_t sums[TALLY_CLASSES];
+    uint8_t missing[TALLY_CLASSES];
 };
 
 /* The count of a head whose lamp failed. */
@@ -55,66 +57,83 @@ struct tally_station {
     uint8_t state;
 };
 
-/* A station with its own number, as a controller keeps it. */
+/* A station with its own number and its class count, as a controller keeps it. */
 struct tally_process {
     uint8_t own;
+    uint8_t classes;
     struct tally_station station;
 };
 
-TALLY_ASSERT(sizeof(struct tally_aggregate) == 16);
-TALLY_ASSERT(offsetof(struct tally_aggregate, missing) == 8);
-TALLY_ASSERT(sizeof(struct tally_station) == 32);
-TALLY_ASSERT(offsetof(struct tally_station, unstarted) == 16);
-TALLY_ASSERT(offsetof(struct tally_station, parent) == 24);
-TALLY_ASSERT(offsetof(struct tally_station, waits) == 25);
-TALLY_ASSERT(offsetof(struct tally_station, state) == 26);
-TALLY_ASSERT(sizeof(struct tally_process) == 40);
+TALLY_ASSERT(sizeof(struct tally_aggregate) == 72);
+TALLY_ASSERT(offsetof(struct tally_aggregate, missing) == 64);
+TALLY_ASSERT(sizeof(struct tally_station) == 88);
+TALLY_ASSERT(offsetof(struct tally_station, unstarted) == 72);
+TALLY_ASSERT(offsetof(struct tally_station, parent) == 80);
+TALLY_ASSERT(offsetof(struct tally_station, waits) == 81);
+TALLY_ASSERT(offsetof(struct tally_station, state) == 82);
+TALLY_ASSERT(sizeof(struct tally_process) == 96);
+TALLY_ASSERT(offsetof(struct tally_process, classes) == 1);
 TALLY_ASSERT(offsetof(struct tally_process, station) == 8);
 
-/* The events: 0, or 11 (station out of form), 12 (station number, sum or missing number out of range), 13 (not allowed), which leave the
-   record. An accepted event leaves the station after it. */
+/* The events: 0, or 11 (station out of form, or classes not 1 to TALLY_CLASSES), 12 (station number, or a sum or missing number of a class
+   in use, out of range), 13 (not allowed), which leave the record. An accepted event leaves the station after it. */
 uint64_t tally_process_take_start(struct tally_process *p, uint8_t from);
 uint64_t tally_process_send_start(struct tally_process *p, uint8_t to);
 uint64_t tally_process_take_answer(struct tally_process *p, struct tally_aggregate v);
 
-/* 0 comes with the parent, as the value. The sum and the missing number given are p->station.held. Station 0 reports; the others answer. */
-uint64_t tally_process_send_answer(struct tally_process *p);
-uint64_t tally_process_report(struct tally_process *p);
+/* What an answer or a report answers, and what it gives: the sums and missing numbers that the station holds, and zero past the classes in
+   use. A refusal gives nothing, zero in all. */
+struct tally_given {
+    uint64_t answer;
+    struct tally_aggregate held;
+};
+
+TALLY_ASSERT(sizeof(struct tally_given) == 80);
+TALLY_ASSERT(offsetof(struct tally_given, held) == 8);
+
+/* 0 comes with the parent, as the value. Station 0 reports; the others answer. */
+struct tally_given tally_process_send_answer(struct tally_process *p);
+struct tally_given tally_process_report(struct tally_process *p);
 
 /* ---- line maps ----------------------------------------------------------------------------------------------------------------------
 
-   k stations, 1 to 64, numbered from 0; the lot; and the count (TALLY_NO_READING among them) and the neighbours of each (bit j is station
-   j). Places k and above are zero after reading, and otherwise ignored. */
+   k stations, 1 to 64, numbered from 0; how many classes, 1 to TALLY_CLASSES; the lot; and of each station the counts, one a class
+   (TALLY_NO_READING among them), and the neighbours (bit j is station j). Places k and above, and counts past the classes, are zero after
+   reading, and otherwise ignored. */
 struct tally_map {
     uint8_t k;
+    uint8_t classes;
     uint32_t lot;
-    uint32_t counts[TALLY_STATIONS];
+    uint32_t counts[TALLY_STATIONS][TALLY_CLASSES];
     uint64_t neighbours[TALLY_STATIONS];
 };
 
-TALLY_ASSERT(sizeof(struct tally_map) == 776);
+TALLY_ASSERT(sizeof(struct tally_map) == 2568);
+TALLY_ASSERT(offsetof(struct tally_map, classes) == 1);
 TALLY_ASSERT(offsetof(struct tally_map, lot) == 4);
 TALLY_ASSERT(offsetof(struct tally_map, counts) == 8);
-TALLY_ASSERT(offsetof(struct tally_map, neighbours) == 264);
+TALLY_ASSERT(offsetof(struct tally_map, neighbours) == 2056);
 
-/* Reads the last map in the bytes: 0, or 1 to 10, which leave *map; 7 to 10 come with the station. */
+/* Reads the last map in the bytes: 0, or 1 to 10, which leave *map; 7 to 10 come with the station. The row length says how many classes
+   there are: 2 where it is not one of 12, 16, .. 40. */
 uint64_t tally_map_read(struct tally_map *map, const uint8_t *bytes, size_t length);
 
-/* Writes the stored form from the first byte: 0 with the number of bytes filled, or 3, 7 to 10 with the station, 15 with the length
-   needed, which leave the bytes. What stands past the bytes filled is left. */
+/* Writes the stored form from the first byte: 0 with the number of bytes filled, or 2 (classes not 1 to TALLY_CLASSES), 3, 7 to 10 with
+   the station, 15 with the length needed, which leave the bytes. What stands past the bytes filled is left. */
 uint64_t tally_map_write(struct tally_map map, uint8_t *bytes, size_t length);
 
-/* Whether a map is accepted: 0, or 3, or 7 to 10 with the lowest offender. */
+/* Whether a map is accepted: 0, or 2, or 3, or 7 to 10 with the lowest offender. */
 uint64_t tally_map_accept(struct tally_map map);
 
-/* The number of links of an accepted map: 0 with it, or 3, or 7 to 10 with the station. */
+/* The number of links of an accepted map: 0 with it, or 2, or 3, or 7 to 10 with the station. */
 uint64_t tally_map_links(struct tally_map map);
 
 /* ---- stations that meet -------------------------------------------------------------------------------------------------------------
 
-   What a net is opened with: its number of stations. */
+   What a net is opened with: its numbers of stations and of classes. */
 struct tally_config {
     uint8_t k;
+    uint8_t classes;
 };
 
 struct tally_rendezvous {
@@ -129,8 +148,9 @@ struct tally_run {
     uint64_t steps;
 };
 
-TALLY_ASSERT(sizeof(struct tally_config) == 1);
-TALLY_ASSERT(sizeof(struct tally_rendezvous) == 2056);
+TALLY_ASSERT(sizeof(struct tally_config) == 2);
+TALLY_ASSERT(offsetof(struct tally_config, classes) == 1);
+TALLY_ASSERT(sizeof(struct tally_rendezvous) == 5640);
 TALLY_ASSERT(offsetof(struct tally_rendezvous, stations) == 8);
 TALLY_ASSERT(sizeof(struct tally_run) == 16);
 TALLY_ASSERT(offsetof(struct tally_run, steps) == 8);
@@ -143,10 +163,11 @@ enum { TALLY_WAKE = 1, TALLY_PASS, TALLY_ANSWER, TALLY_REPORT };
 #define TALLY_SENDER(answer) ((uint8_t)((answer) >> 16))
 #define TALLY_RECEIVER(answer) ((uint8_t)((answer) >> 24))
 
-/* Opens the fresh net of a map: 0, or 3, or 7 to 10 with the station, which leave *net. */
+/* Opens the fresh net of a map: 0, or 2, or 3, or 7 to 10 with the station, which leave *net. Past k and past the classes it is zero. */
 uint64_t tally_rendezvous_fresh(struct tally_rendezvous *net, struct tally_map map);
 
-/* One step: 0 with the step made (kind, sender, receiver), or 11, 12, 13, which leave *net. */
+/* One step: 0 with the step made (kind, sender, receiver), or 11 (classes not 1 to TALLY_CLASSES among it), 12, 13, which leave
+   *net. */
 uint64_t tally_rendezvous_step(struct tally_rendezvous *net, uint8_t kind, uint8_t sender, uint8_t receiver);
 
 /* The step that draw d picks: 0 with the step made, or 11, or 14 (nothing allowed), which leave *net. */
@@ -165,29 +186,30 @@ struct tally_line {
 };
 
 /* And its mailboxes. The one from s to r holds a start where bit r of starts[s] is set, whatever answers[s] has there; else, where bit r of
-   answers[s] is set, an answer, which brings sums[s][r] and the missing number in the lowest byte of missing[s][r]; else nothing.
+   answers[s] is set, an answer, which brings for each class j the sum sums[j][s][r] and the missing number in byte j of missing[s][r], the
+   lowest byte being that of class 0; else nothing.
 
-   Any words are mailboxes; what stands in the other seven bytes of a missing word is not looked at. Emptying a mailbox clears its bit in
-   both sets; posting sets its bit in one set and clears it in the other; only an answer that is posted writes a sum, and a missing word,
-   whose other bytes are zero then. Beside no answer neither word is looked at. Mailboxes past k, and of a station to itself, are neither
-   looked at nor touched, but by an opening, which fills all words. */
+   Any words are mailboxes; the bytes and the sums past the classes in use are not looked at. Emptying a mailbox clears its bit in both
+   sets; posting sets its bit in one set and clears it in the other; only an answer that is posted writes its missing word and its sums, all
+   TALLY_CLASSES of them, with zero past the classes in use. Beside no answer none of these words is looked at. Mailboxes past k, and of a
+   station to itself, are neither looked at nor touched, but by an opening, which fills all words. */
 struct tally_mail {
     uint64_t starts[TALLY_STATIONS];
     uint64_t answers[TALLY_STATIONS];
     uint64_t missing[TALLY_STATIONS][TALLY_STATIONS];
-    uint64_t sums[TALLY_STATIONS][TALLY_STATIONS];
+    uint64_t sums[TALLY_CLASSES][TALLY_STATIONS][TALLY_STATIONS];
 };
 
 /* Whether a start, or an answer, waits from s to r (both below TALLY_STATIONS). */
 #define TALLY_START_WAITS(mail, s, r) ((mail)->starts[s] >> (r) & 1)
 #define TALLY_ANSWER_WAITS(mail, s, r) (((mail)->answers[s] & ~(mail)->starts[s]) >> (r) & 1)
 
-/* The missing number of an answer that waits from s to r; its sum is sums[s][r]. */
-#define TALLY_ANSWER_MISSING(mail, s, r) ((uint8_t)(mail)->missing[s][r])
+/* The missing number, in class j, of an answer that waits from s to r; its sum is sums[j][s][r]. */
+#define TALLY_ANSWER_MISSING(mail, s, r, j) ((uint8_t)((mail)->missing[s][r] >> 8 * (j)))
 
-TALLY_ASSERT(sizeof(struct tally_line) == 2056);
+TALLY_ASSERT(sizeof(struct tally_line) == 5640);
 TALLY_ASSERT(offsetof(struct tally_line, stations) == 8);
-TALLY_ASSERT(sizeof(struct tally_mail) == 66560);
+TALLY_ASSERT(sizeof(struct tally_mail) == 295936);
 TALLY_ASSERT(offsetof(struct tally_mail, answers) == 512);
 TALLY_ASSERT(offsetof(struct tally_mail, missing) == 1024);
 TALLY_ASSERT(offsetof(struct tally_mail, sums) == 33792);
@@ -195,12 +217,12 @@ TALLY_ASSERT(offsetof(struct tally_mail, sums) == 33792);
 /* The kinds of step with mail. A report is from 0 to 0. */
 enum { TALLY_DELIVERY = 1, TALLY_MAIL_REPORT };
 
-/* Opens the fresh net of a map: 0, or 3, or 7 to 10 with the station, which leave *line and *mail. All words are zero then, but for the
-   starts of station 0, which wait for its neighbours. */
+/* Opens the fresh net of a map: 0, or 2, or 3, or 7 to 10 with the station, which leave *line and *mail. All words are zero then, but for
+   the starts of station 0, which wait for its neighbours. */
 uint64_t tally_mailbox_fresh(struct tally_line *line, struct tally_mail *mail, struct tally_map map);
 
 /* A step, a draw and a run answer, and leave what they are lent, as those of stations that meet. An answer that waits with a sum of 2^62 or
-   more, or with a missing number above TALLY_MOST_MISSING, is out of form (11). */
+   more, or with a missing number above TALLY_MOST_MISSING, in a class in use, is out of form (11). */
 uint64_t tally_mailbox_step(struct tally_line *line, struct tally_mail *mail, uint8_t kind, uint8_t sender, uint8_t receiver);
 uint64_t tally_mailbox_draw(struct tally_line *line, struct tally_mail *mail, uint16_t d);
 struct tally_run tally_mailbox_run(struct tally_line *line, struct tally_mail *mail, const uint16_t *draws, size_t count);

@@ -34,7 +34,7 @@ where
     M::Layout: Clone + Exports,
 {
     fn fresh(map: &Map) -> Net<M> {
-        let mut net: Net<M> = Net { layout: M::set_up(&Map::empty(1, 0)).lay_out() };
+        let mut net: Net<M> = Net { layout: M::set_up(&Map::empty(1, 1, 0)).lay_out() };
         net.layout.fresh(map.lay_out()).done().expect("the map is accepted");
         net
     }

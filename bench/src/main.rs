@@ -17,6 +17,9 @@ use timing::{shown, times, Timed, Times};
 
 const SIZES: [u8; 4] = [8, 16, 32, 64];
 
+/// Numbers of classes, the least and the most.
+const CLASSES: [u8; 2] = [1, 8];
+
 /// A kind of net to be timed, in the library or by hand.
 pub trait Net: Clone {
     fn fresh(map: &Map) -> Self;
@@ -80,10 +83,13 @@ impl Net for by_hand::mail::Mail {
 
 fn main() {
     println!("Times are the least of several, copying left out; a ratio is the median over batches side by side.\n");
-    maps();
-    nets::<Meet, Meet>("Stations that meet");
-    #[cfg(feature = "mail")]
-    nets::<conformance::model::mail::Mail, by_hand::mail::Mail>("Stations with mail");
+    for classes in CLASSES {
+        println!("Classes: {classes}");
+        maps(classes);
+        nets::<Meet, Meet>("Stations that meet", classes);
+        #[cfg(feature = "mail")]
+        nets::<conformance::model::mail::Mail, by_hand::mail::Mail>("Stations with mail", classes);
+    }
 }
 
 /// A bar, where there is one, is the most that the ratio should be.
@@ -94,8 +100,8 @@ fn line(what: &str, times: Times, bar: Option<f64>) -> String {
 }
 
 /// Reading and writing a map of 64 stations, all linked: acceptance has the most to look at there.
-fn maps() {
-    let (map, blank) = (clique(64), Map::empty(0, 0));
+fn maps(classes: u8) {
+    let (map, blank) = (clique(64, classes), Map::empty(0, 0, 0));
     let (laid_out, blank_laid_out) = (map.lay_out(), blank.lay_out());
     let bytes = stored(&map);
     println!("A map of 64 stations, all linked");
@@ -112,7 +118,8 @@ fn maps() {
 
 /// Both read and write the same.
 fn maps_agree(map: &Map, bytes: &[u8]) {
-    let (mut read, mut read_by_hand) = (Map::empty(0, 0).lay_out(), Map::empty(0, 0));
+    let blank = Map::empty(0, 0, 0);
+    let (mut read, mut read_by_hand) = (blank.lay_out(), blank);
     library::read(bytes, &mut read);
     by_hand::map::read(bytes, &mut read_by_hand).expect("the map is accepted");
     assert_eq!((Map::take_back(&read), read_by_hand), (*map, *map));
@@ -123,7 +130,7 @@ fn maps_agree(map: &Map, bytes: &[u8]) {
 }
 
 /// One kind of net: a draw and a step on 64 stations, then whole runs.
-fn nets<M, H>(kind: &str)
+fn nets<M, H>(kind: &str, classes: u8)
 where
     M: Model + LaidOut,
     M::Layout: Clone + Exports,
@@ -131,11 +138,11 @@ where
 {
     println!("{kind}: one draw and one step are the mean over a whole wave; a run is from fresh to rest");
     for (shape, map_of) in SHAPES {
-        let map = map_of(64);
+        let map = map_of(64, classes);
         one_by_one::<M, H>(shape, &map, &draws(&map));
         let mut before = None;
         for k in SIZES {
-            let map = map_of(k);
+            let map = map_of(k, classes);
             let draws = draws(&map);
             let times = whole_run::<library::Net<M>, H>(&map, &draws);
             let what = format!("{shape}, run of {k}, {} steps", draws.len());

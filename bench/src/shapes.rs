@@ -3,35 +3,37 @@
 use conformance::model::aggregate::NO_READING;
 use conformance::model::map::Map;
 
-/// A name, and the map of that shape with k stations.
-type Shape = (&'static str, fn(u8) -> Map);
+/// A name, and the map of that shape with so many stations and classes.
+type Shape = (&'static str, fn(u8, u8) -> Map);
 
 pub const SHAPES: [Shape; 3] = [("ring", ring), ("tree", tree), ("clique", clique)];
 
-/// One head in eight has no reading.
-fn of_links(k: u8, links: impl Iterator<Item = (u8, u8)>) -> Map {
-    let mut map = Map::empty(k, 42);
+/// In each class one head in eight has no reading.
+fn of_links(k: u8, classes: u8, links: impl Iterator<Item = (u8, u8)>) -> Map {
+    let mut map = Map::empty(k, classes, 42);
     for (a, b) in links {
         map.neighbours[usize::from(a)] |= 1 << b;
         map.neighbours[usize::from(b)] |= 1 << a;
     }
-    for (i, count) in (0..u32::from(k)).zip(&mut map.counts) {
-        *count = if i % 8 == 7 { NO_READING } else { 1_000_003 * (i + 1) };
+    for (i, counts) in (0..u32::from(k)).zip(&mut map.counts) {
+        for (j, count) in (0..u32::from(classes)).zip(counts) {
+            *count = if (i + j) % 8 == 7 { NO_READING } else { 1_000_003 * (i + 1) + j };
+        }
     }
     map
 }
 
-fn ring(k: u8) -> Map {
-    of_links(k, (0..k).map(|i| (i, (i + 1) % k)))
+fn ring(k: u8, classes: u8) -> Map {
+    of_links(k, classes, (0..k).map(|i| (i, (i + 1) % k)))
 }
 
 /// Two below each.
-fn tree(k: u8) -> Map {
-    of_links(k, (1..k).map(|i| ((i - 1) / 2, i)))
+fn tree(k: u8, classes: u8) -> Map {
+    of_links(k, classes, (1..k).map(|i| ((i - 1) / 2, i)))
 }
 
-pub fn clique(k: u8) -> Map {
-    of_links(k, (0..k).flat_map(|b| (0..b).map(move |a| (a, b))))
+pub fn clique(k: u8, classes: u8) -> Map {
+    of_links(k, classes, (0..k).flat_map(|b| (0..b).map(move |a| (a, b))))
 }
 
 /// Draws enough for a whole wave, the same each time.

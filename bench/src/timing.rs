@@ -6,7 +6,7 @@ use std::sync::LazyLock;
 const BATCH: f64 = 2e-3;
 
 /// The copies of what the calls of a batch are lent take no more bytes than a cache of the processor has.
-const MOST_BYTES: usize = 1 << 19;
+const MOST_BYTES: usize = 1 << 20;
 
 /// Batches are repeated for this long, and ten times at least.
 const ENOUGH: f64 = 0.4;

@@ -1,14 +1,15 @@
 /* A desk's side of the tally. It reads the line map that stands at the end of some bytes, opens a net on it, and lets draws pick the
    steps until the desk has reported. All it keeps is the map and the net.
 
-   The map is document 01's triangle, lot 42. It is run twice: draw by draw, with a line for each step, and in another order in one call,
-   which gives the same total. Then a lamp has failed: the total is that of the other heads, and one reading is missing. */
+   The map is document 01's triangle, lot 42, with one class of bruises. It is run twice: draw by draw, with a line for each step, and in
+   another order in one call, which gives the same total. Then a lamp has failed: the total is that of the other heads, and one reading is
+   missing. Then the heads count a second class too, and none is missing there; each class has its own total. */
 #include "tally.h"
 #include <inttypes.h>
 #include <stdio.h>
 
 static const uint8_t stored[] = {
-    /* a row for each station: count (4 bytes), then a bit for each neighbour (8 bytes) */
+    /* a row for each station: its counts (4 bytes each, here one), then a bit for each neighbour (8 bytes) */
     5, 0, 0, 0, 1 << 1 | 1 << 2, 0, 0, 0, 0, 0, 0, 0,
     7, 0, 0, 0, 1 << 0 | 1 << 2, 0, 0, 0, 0, 0, 0, 0,
     11, 0, 0, 0, 1 << 0 | 1 << 1, 0, 0, 0, 0, 0, 0, 0,
@@ -16,7 +17,14 @@ static const uint8_t stored[] = {
     3, 0, 12, 0, 36, 0, 0, 0, 42, 0, 0, 0, 0x8a, 0xff, 0xf3, 0xff,
 };
 
-/* One step, as its answer tells it. What the sender holds, sum and missing number, is what it answers or reports. */
+/* Sum and missing number for each class in turn. */
+static void print_held(const struct tally_rendezvous *net, uint8_t station)
+{
+    for (uint8_t j = 0; j < net->config.classes; j++)
+        printf(" %" PRIu64 " %u", net->stations[station].held.sums[j], net->stations[station].held.missing[j]);
+}
+
+/* One step, as its answer tells it. What the sender holds is what it answers or reports. */
 static void print_step(const struct tally_rendezvous *net, uint64_t answer)
 {
     static const char *const kinds[] = {"", "wake", "pass", "answer", "report"};
@@ -26,7 +34,7 @@ static void print_step(const struct tally_rendezvous *net, uint64_t answer)
     if (kind != TALLY_REPORT)
         printf(" %u", receiver);
     if (kind == TALLY_ANSWER || kind == TALLY_REPORT)
-        printf(" %" PRIu64 " %u", net->stations[sender].held.sum, net->stations[sender].held.missing);
+        print_held(net, sender);
     printf("\n");
 }
 
@@ -52,8 +60,10 @@ static void run(struct tally_map map)
 
     tally_rendezvous_fresh(&net, map);
     struct tally_run run = tally_rendezvous_run(&net, draws, sizeof draws / sizeof draws[0]);
-    printf("run: steps %" PRIu64 ", at rest %" PRIu64 ", total %" PRIu64 ", missing %u, station 2 hung on %u\n", run.steps,
-           TALLY_VALUE(run.answer), net.stations[0].held.sum, net.stations[0].held.missing, net.stations[2].parent);
+    printf("run: steps %" PRIu64 ", at rest %" PRIu64 ", station 2 hung on %u, reported", run.steps, TALLY_VALUE(run.answer),
+           net.stations[2].parent);
+    print_held(&net, 0);
+    printf("\n");
 }
 
 int main(void)
@@ -74,7 +84,11 @@ int main(void)
     printf("lot %" PRIu32 " steps %u links %" PRIu64 "\n", map.lot, steps, links);
 
     run(map);
-    map.counts[1] = TALLY_NO_READING;
+    map.counts[1][0] = TALLY_NO_READING;
+    run(map);
+    map.classes = 2;
+    for (uint8_t i = 0; i < map.k; i++)
+        map.counts[i][1] = 100 + i;
     run(map);
     return 0;
 }

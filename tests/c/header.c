@@ -2,7 +2,7 @@
 #include "tally.h"
 #include "tally.h"
 
-static struct tally_process asleep;
+static struct tally_process asleep = {0, 1, {{{0}, {0}}, 0, 0, 0, TALLY_ASLEEP}};
 static struct tally_mail mail;
 
 static int answers_come_apart(void)
@@ -17,10 +17,11 @@ static int mail_waits(void)
     mail.answers[1] = 3;
     mail.missing[1][1] = 0xa540;
     return TALLY_START_WAITS(&mail, 1, 0) && !TALLY_ANSWER_WAITS(&mail, 1, 0) && TALLY_ANSWER_WAITS(&mail, 1, 1)
-        && TALLY_ANSWER_MISSING(&mail, 1, 1) == TALLY_MOST_MISSING;
+        && TALLY_ANSWER_MISSING(&mail, 1, 1, 0) == TALLY_MOST_MISSING && TALLY_ANSWER_MISSING(&mail, 1, 1, 1) == 0xa5
+        && TALLY_ANSWER_MISSING(&mail, 1, 1, TALLY_CLASSES - 1) == 0;
 }
 
 int main(void)
 {
-    return answers_come_apart() && mail_waits() && TALLY_NO_READING == UINT32_MAX && tally_process_report(&asleep) == 13 ? 0 : 1;
+    return answers_come_apart() && mail_waits() && TALLY_NO_READING == UINT32_MAX && tally_process_report(&asleep).answer == 13 ? 0 : 1;
 }

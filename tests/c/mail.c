@@ -1,13 +1,13 @@
 /* A net of stations with mail: steps, draws and runs on document 01's triangle, their values, what refusals leave, and how mailboxes are
-   read from words and written to words; missing readings. The order: deliveries 0 1, 1 2, 0 2, 2 0, 2 1 with 11, 1 0 with 18; report 23. */
+   read from words and written to words; missing readings and classes. The order: deliveries 0 1, 1 2, 0 2, 2 0, 2 1 with 11, 1 0 with 18;
+   report 23. */
 #include "check.h"
 #include "triangle.h"
-#include <string.h>
 
 /* Sums on both sides of what the form allows. */
 static const uint64_t most = ((uint64_t)1 << 62) - 1, too_much = (uint64_t)1 << 62;
 
-/* Missing words: of the most that the form allows and of one more, with something in the bytes that are not looked at. */
+/* Missing words of one class: of the most that the form allows and of one more, with something in the bytes that are not looked at. */
 static const uint64_t idle = 0x0807060504030200, most_missing = 0x0807060504030240, too_many = 0x0807060504030241;
 
 struct net {
@@ -79,7 +79,7 @@ static void refusals(struct net *net)
 static void out_of_form(struct net net, uint64_t sum, uint64_t missing)
 {
     net.mail.answers[1] = 1;
-    net.mail.sums[1][0] = sum;
+    net.mail.sums[0][1][0] = sum;
     net.mail.missing[1][0] = missing;
     const struct tally_mail before = net.mail;
     CHECK(deliver(&net, 0, 1) == 11);
@@ -89,50 +89,52 @@ static void out_of_form(struct net net, uint64_t sum, uint64_t missing)
     CHECK(are_fresh(net.line.config, net.line.stations) && same_mail(&net.mail, &before));
 }
 
-/* In form are the most of both, whatever stands in the other bytes of a missing word; both are added, and their words stay. */
+/* In form are the most of both, whatever stands past the class in use; both are added, and their words stay. */
 static void most_is_taken(struct net net)
 {
     net.mail.answers[1] = 1;
-    net.mail.sums[1][0] = most - 5;
+    net.mail.sums[0][1][0] = most - 5;
+    net.mail.sums[1][1][0] = too_much;
     net.mail.missing[1][0] = most_missing;
-    CHECK(TALLY_ANSWER_MISSING(&net.mail, 1, 0) == TALLY_MOST_MISSING);
+    CHECK(TALLY_ANSWER_MISSING(&net.mail, 1, 0, 0) == TALLY_MOST_MISSING);
     CHECK(delivered(deliver(&net, 1, 0), 1, 0));
     CHECK(is(&net.line.stations[0], held(most, TALLY_MOST_MISSING), 6, 0, 1, TALLY_ACTIVE));
-    CHECK(answers_wait(&net.mail, 0, 0, 0) && net.mail.sums[1][0] == most - 5 && net.mail.missing[1][0] == most_missing);
+    CHECK(answers_wait(&net.mail, 0, 0, 0) && net.mail.sums[0][1][0] == most - 5 && net.mail.missing[1][0] == most_missing);
 }
 
 /* Where both bits are set a start waits, and goes with both bits; the words of the answer are not looked at, and stay. */
 static void both_bits(struct net net)
 {
     net.mail.answers[0] = 2;
-    net.mail.sums[0][1] = too_much;
+    net.mail.sums[0][0][1] = too_much;
     net.mail.missing[0][1] = too_many;
     CHECK(TALLY_START_WAITS(&net.mail, 0, 1) && !TALLY_ANSWER_WAITS(&net.mail, 0, 1));
     CHECK(delivered(deliver(&net, 0, 1), 0, 1));
     CHECK(is(&net.line.stations[1], held(7, 0), 5, 0, 1, TALLY_ACTIVE));
     CHECK(starts_wait(&net.mail, 4, 4, 0) && answers_wait(&net.mail, 0, 0, 0));
-    CHECK(net.mail.sums[0][1] == too_much && net.mail.missing[0][1] == too_many);
+    CHECK(net.mail.sums[0][0][1] == too_much && net.mail.missing[0][1] == too_many);
 }
 
 /* A post replaces what the mailbox held: a start an answer, whose words stay, and an answer a start; an answer fills its words whole. */
 static void posts(struct net net)
 {
     net.mail.answers[1] = 4;
-    net.mail.sums[1][2] = most;
+    net.mail.sums[0][1][2] = most;
     net.mail.missing[1][2] = most_missing;
     CHECK(TALLY_ANSWER_WAITS(&net.mail, 1, 2) && !TALLY_START_WAITS(&net.mail, 1, 2));
     CHECK(delivered(deliver(&net, 0, 1), 0, 1));
     CHECK(starts_wait(&net.mail, 4, 4, 0) && answers_wait(&net.mail, 0, 0, 0));
-    CHECK(net.mail.sums[1][2] == most && net.mail.missing[1][2] == most_missing);
+    CHECK(net.mail.sums[0][1][2] == most && net.mail.missing[1][2] == most_missing);
 
     net.mail.starts[1] = 1;
     net.mail.starts[2] = 2;
     net.mail.missing[1][0] = idle;
-    net.line.stations[1].held.missing = 3;
+    net.mail.sums[TALLY_CLASSES - 1][1][0] = most;
+    net.line.stations[1].held.missing[0] = 3;
     CHECK(delivered(deliver(&net, 2, 1), 2, 1));
     CHECK(is(&net.line.stations[1], held(7, 3), 5, 0, 0, TALLY_FINISHED));
     CHECK(starts_wait(&net.mail, 4, 0, 0) && answers_wait(&net.mail, 0, 1, 0));
-    CHECK(net.mail.sums[1][0] == 7 && net.mail.missing[1][0] == 3);
+    CHECK(net.mail.sums[0][1][0] == 7 && net.mail.sums[TALLY_CLASSES - 1][1][0] == 0 && net.mail.missing[1][0] == 3);
 }
 
 /* Station 1 has no reading. Where an answer takes it out of form it hands that on; a single step is accepted, a run stops with 11. */
@@ -155,6 +157,31 @@ static void missing(struct net net)
     CHECK(is(&full.line.stations[1], held(0, TALLY_MOST_MISSING + 1), 5, 0, 0, TALLY_FINISHED));
     CHECK(answers_wait(&full.mail, 0, 1, 0) && full.mail.missing[1][0] == TALLY_MOST_MISSING + 1);
     CHECK(same_mail(&stepped.mail, &full.mail));
+}
+
+/* Two classes: what an answer brings stands class by class, and zero past them, whatever the sender holds there. An answer that waits is
+   out of form by its second class, and not by a third. */
+static void classes(struct net net)
+{
+    CHECK(tally_mailbox_fresh(&net.line, &net.mail, two_classes) == 0);
+    net.line.stations[1].held.sums[2] = net.mail.sums[2][1][0] = too_much;
+    net.line.stations[1].held.missing[2] = 255;
+    net.mail.missing[1][0] = idle;
+    net.mail.starts[2] = 2;
+    CHECK(delivered(deliver(&net, 0, 1), 0, 1) && delivered(deliver(&net, 2, 1), 2, 1));
+    CHECK(answers_wait(&net.mail, 0, 1, 0) && net.mail.missing[1][0] == 0x100 && TALLY_ANSWER_MISSING(&net.mail, 1, 0, 1) == 1);
+    CHECK(net.mail.sums[0][1][0] == 7 && net.mail.sums[1][1][0] == 0 && net.mail.sums[2][1][0] == 0);
+    CHECK(net.line.stations[1].held.sums[2] == too_much && net.line.stations[1].held.missing[2] == 255);
+
+    net.mail.sums[2][1][0] = too_much;
+    net.mail.sums[1][1][0] = too_much;
+    CHECK(deliver(&net, 1, 0) == 11);
+    net.mail.sums[1][1][0] = 0;
+    CHECK(delivered(deliver(&net, 1, 0), 1, 0));
+    CHECK(is(&net.line.stations[0], both(held(12, 0), held(4, 1)), 6, 0, 1, TALLY_ACTIVE));
+
+    net.line.config.classes = 0;
+    CHECK(deliver(&net, 0, 2) == 11 && draw(&net, 0) == 11 && run(&net, 1).answer == 11);
 }
 
 /* Past k, from a station to itself, and beside no answer, any words may stand: no call but an opening looks at them or touches them. */
@@ -190,20 +217,20 @@ static void wave(struct net *net)
     CHECK(starts_wait(mail, 4, 0, 1) && answers_wait(mail, 0, 0, 0));
     CHECK(delivered(draw(net, 0), 0, 2));
     CHECK(is(&stations[2], held(11, 0), 3, 1, 0, TALLY_FINISHED));
-    CHECK(starts_wait(mail, 0, 0, 1) && answers_wait(mail, 0, 0, 2) && mail->sums[2][1] == 11);
+    CHECK(starts_wait(mail, 0, 0, 1) && answers_wait(mail, 0, 0, 2) && mail->sums[0][2][1] == 11);
 
     struct tally_run part = run(net, 2);
     CHECK(part.answer == 0 && part.steps == 2);
     CHECK(is(&stations[0], held(5, 0), 6, 0, 1, TALLY_ACTIVE) && is(&stations[1], held(18, 0), 5, 0, 0, TALLY_FINISHED));
-    CHECK(starts_wait(mail, 0, 0, 0) && answers_wait(mail, 0, 1, 0) && mail->sums[1][0] == 18);
+    CHECK(starts_wait(mail, 0, 0, 0) && answers_wait(mail, 0, 1, 0) && mail->sums[0][1][0] == 18);
     struct tally_run rest = run(net, 7);
     CHECK(TALLY_NUMBER(rest.answer) == 0 && TALLY_VALUE(rest.answer) == 1 && rest.steps == 2);
     CHECK(is(&stations[0], held(23, 0), 6, 0, 0, TALLY_FINISHED));
     CHECK(draw(net, 0) == 14);
 
     static struct tally_mail due;
-    due.sums[2][1] = 11;
-    due.sums[1][0] = 18;
+    due.sums[0][2][1] = 11;
+    due.sums[0][1][0] = 18;
     CHECK(same_mail(mail, &due));
 }
 
@@ -220,6 +247,7 @@ int main(void)
     both_bits(net);
     posts(net);
     missing(net);
+    classes(net);
     strays(net);
     wave(&net);
     return 0;

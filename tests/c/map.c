@@ -1,10 +1,16 @@
-/* A map written, read back, counted and refused: the values that come with the numbers, and what is left. */
+/* Maps of one class and of several, written, read back, counted and refused: the values that come with the numbers, and what is left. */
 #include "check.h"
 #include "triangle.h"
 #include <string.h>
 
 /* Of document 01's triangle. */
 static const uint8_t check_word[4] = {4294180746u & 255, 4294180746u >> 8 & 255, 4294180746u >> 16 & 255, 4294180746u >> 24};
+
+static int same(const struct tally_map *a, const struct tally_map *b)
+{
+    return a->k == b->k && a->classes == b->classes && a->lot == b->lot && memcmp(a->counts, b->counts, sizeof a->counts) == 0
+        && memcmp(a->neighbours, b->neighbours, sizeof a->neighbours) == 0;
+}
 
 static void store(void)
 {
@@ -18,17 +24,37 @@ static void store(void)
     CHECK(memcmp(bytes + 48, check_word, 4) == 0);
     CHECK(bytes[52] == 0xa5);
 
-    struct tally_map map = {1, 2, {3}, {4}};
+    struct tally_map map = {1, 2, 3, {{4}}, {5}};
     CHECK(tally_map_read(&map, bytes, 15) == 1);
     CHECK(tally_map_read(&map, bytes + 1, 51) == 5);
     bytes[0]++;
     CHECK(tally_map_read(&map, bytes, 52) == 6);
-    CHECK(map.k == 1 && map.lot == 2 && map.counts[0] == 3 && map.neighbours[0] == 4);
+    CHECK(map.k == 1 && map.classes == 2 && map.lot == 3 && map.counts[0][0] == 4 && map.neighbours[0] == 5);
     bytes[0]--;
     CHECK(tally_map_read(&map, bytes, 52) == 0);
-    CHECK(map.k == 3 && map.lot == 42);
-    CHECK(memcmp(map.counts, triangle.counts, sizeof map.counts) == 0);
-    CHECK(memcmp(map.neighbours, triangle.neighbours, sizeof map.neighbours) == 0);
+    CHECK(same(&map, &triangle));
+}
+
+/* Two counts a station, with something past them: writing leaves it out, and reading gives zero there. */
+static void classes(void)
+{
+    uint8_t bytes[64];
+    struct tally_map map = two_classes;
+    map.counts[0][2] = map.counts[2][TALLY_CLASSES - 1] = map.counts[3][0] = 9;
+    CHECK(tally_map_write(map, bytes, 63) == 15 + 256 * 64);
+    CHECK(tally_map_write(map, bytes, 64) == 256 * 64);
+    const uint8_t row[16] = {7, 0, 0, 0, 255, 255, 255, 255, 5}, numbers[8] = {3, 0, 16, 0, 48, 0, 0, 0};
+    CHECK(memcmp(bytes + 16, row, sizeof row) == 0 && memcmp(bytes + 48, numbers, sizeof numbers) == 0);
+    CHECK(tally_map_read(&map, bytes, 64) == 0);
+    CHECK(same(&map, &two_classes));
+
+    bytes[50] = 14;
+    CHECK(tally_map_read(&map, bytes, 64) == 2);
+    bytes[50] = 44;
+    CHECK(tally_map_read(&map, bytes, 64) == 2);
+    bytes[50] = 12;
+    CHECK(tally_map_read(&map, bytes, 64) == 4);
+    CHECK(same(&map, &two_classes));
 }
 
 /* Every call on a map handed over refuses it alike. */
@@ -44,13 +70,17 @@ static void refused(struct tally_map map, uint64_t number, uint64_t station)
 int main(void)
 {
     store();
+    classes();
     CHECK(tally_map_accept(triangle) == 0);
     CHECK(tally_map_links(triangle) == 256 * 3);
-    refused((struct tally_map){0, 0, {0}, {0}}, 3, 0);
-    refused((struct tally_map){65, 0, {0}, {0}}, 3, 0);
-    refused((struct tally_map){2, 0, {0}, {2, 4 | 1}}, 7, 1);
-    refused((struct tally_map){1, 0, {0}, {1}}, 8, 0);
-    refused((struct tally_map){3, 0, {0}, {2, 1, 2}}, 9, 2);
-    refused((struct tally_map){2, 0, {0}, {0, 0}}, 10, 1);
+    refused((struct tally_map){3, 0, 0, {{0}}, {6, 5, 3}}, 2, 0);
+    refused((struct tally_map){0, TALLY_CLASSES + 1, 0, {{0}}, {0}}, 2, 0);
+    refused((struct tally_map){65, 255, 0, {{0}}, {0}}, 2, 0);
+    refused((struct tally_map){0, 1, 0, {{0}}, {0}}, 3, 0);
+    refused((struct tally_map){65, TALLY_CLASSES, 0, {{0}}, {0}}, 3, 0);
+    refused((struct tally_map){2, 1, 0, {{0}}, {2, 4 | 1}}, 7, 1);
+    refused((struct tally_map){1, 1, 0, {{0}}, {1}}, 8, 0);
+    refused((struct tally_map){3, 1, 0, {{0}}, {2, 1, 2}}, 9, 2);
+    refused((struct tally_map){2, 1, 0, {{0}}, {0, 0}}, 10, 1);
     return 0;
 }

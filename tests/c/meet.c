@@ -1,4 +1,5 @@
-/* A net of stations that meet: steps, draws and runs on document 01's triangle, their values, what refusals leave, and missing readings. */
+/* A net of stations that meet: steps, draws and runs on document 01's triangle, their values, what refusals leave, missing readings
+   and classes. */
 #include "check.h"
 #include "triangle.h"
 
@@ -19,9 +20,12 @@ static void refusals(struct tally_rendezvous *net)
     struct tally_run run = tally_rendezvous_run(&out_of_form, draws, 1);
     CHECK(run.answer == 11 && run.steps == 0);
     out_of_form = *net;
-    out_of_form.stations[2].held.missing = TALLY_MOST_MISSING + 1;
+    out_of_form.stations[2].held.missing[0] = TALLY_MOST_MISSING + 1;
     CHECK(tally_rendezvous_draw(&out_of_form, 0) == 11);
     CHECK(is(&out_of_form.stations[2], held(11, TALLY_MOST_MISSING + 1), 3, 0, 2, TALLY_ASLEEP));
+    out_of_form = *net;
+    out_of_form.config.classes = TALLY_CLASSES + 1;
+    CHECK(tally_rendezvous_step(&out_of_form, TALLY_WAKE, 0, 1) == 11 && tally_rendezvous_draw(&out_of_form, 0) == 11);
 }
 
 /* Station 1 has no reading: nothing is added to the sum, and one to the missing number. */
@@ -36,11 +40,30 @@ static void missing(void)
     CHECK(is(&net.stations[0], held(16, 1), 0, 0, 0, TALLY_FINISHED));
 
     /* with the most at station 0, the fifth step, answer 1 0, leaves the form: a run stops there, and the net reached is refused */
-    full.stations[0].held.missing = TALLY_MOST_MISSING;
+    full.stations[0].held.missing[0] = TALLY_MOST_MISSING;
     struct tally_run stopped = tally_rendezvous_run(&full, draws, 7);
     CHECK(stopped.answer == 11 && stopped.steps == 5);
     CHECK(is(&full.stations[0], held(5, TALLY_MOST_MISSING + 1), 0, 0, 1, TALLY_ACTIVE));
     CHECK(tally_rendezvous_draw(&full, 0) == 11);
+}
+
+/* Two classes, each with its own total; what stands past them stays where it is. With a third in use the net is out of form. */
+static void classes(void)
+{
+    static const uint16_t draws[7] = {0};
+    struct tally_rendezvous net;
+    CHECK(tally_rendezvous_fresh(&net, two_classes) == 0);
+    CHECK(is(&net.stations[1], both(held(7, 0), held(0, 1)), 5, 0, 2, TALLY_ASLEEP));
+    for (unsigned i = 0; i < 3; i++) {
+        net.stations[i].held.sums[2] = UINT64_MAX - i;
+        net.stations[i].held.missing[2] = 255;
+    }
+    struct tally_rendezvous wide = net;
+    wide.config.classes = 3;
+    CHECK(tally_rendezvous_draw(&wide, 0) == 11);
+    CHECK(tally_rendezvous_run(&net, draws, 7).answer == 256);
+    const struct tally_aggregate reported = {{23, 7, UINT64_MAX}, {0, 1, 255}};
+    CHECK(is(&net.stations[0], reported, 0, 0, 0, TALLY_FINISHED));
 }
 
 int main(void)
@@ -60,5 +83,6 @@ int main(void)
     CHECK(is(&net.stations[0], held(23, 0), 0, 0, 0, TALLY_FINISHED));
     CHECK(tally_rendezvous_draw(&net, 0) == 14);
     missing();
+    classes();
     return 0;
 }

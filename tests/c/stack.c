@@ -1,6 +1,7 @@
 /* How much stack each call takes: it is made on a stack of its own, painted before, and what is no longer painted was used. Prints a line
-   for each call: its name, the bytes, the more of an accepted call on 64 stations all linked and of a refused one, and what the header says
-   of its group. To be linked with all names bound, or the loader's own stack is measured with the first call of memcpy. */
+   for each call: its name, the bytes, the more of an accepted call on 64 stations all linked, with all classes, and of a refused one, and
+   what the header says of its group. To be linked with all names bound, or the loader's own stack is measured with the first call of
+   memcpy. */
 #define _XOPEN_SOURCE 700
 #include "check.h"
 #include "tally.h"
@@ -35,15 +36,15 @@ static struct tally_rendezvous net;
 static struct tally_line line;
 static struct tally_mail mail;
 static struct tally_process process;
-static uint8_t bytes[12 * TALLY_STATIONS + 16];
+static uint8_t bytes[(8 + 4 * TALLY_CLASSES) * TALLY_STATIONS + 16];
 static uint16_t draws[MOST_DRAWS];
 static volatile uint64_t answer;
 
 static void take_start(void) { answer = tally_process_take_start(&process, 1); }
 static void send_start(void) { answer = tally_process_send_start(&process, 2); }
-static void take_answer(void) { answer = tally_process_take_answer(&process, (struct tally_aggregate){1, 1}); }
-static void send_answer(void) { answer = tally_process_send_answer(&process); }
-static void report(void) { answer = tally_process_report(&process); }
+static void take_answer(void) { answer = tally_process_take_answer(&process, (struct tally_aggregate){{1}, {1}}); }
+static void send_answer(void) { answer = tally_process_send_answer(&process).answer; }
+static void report(void) { answer = tally_process_report(&process).answer; }
 static void map_read(void) { answer = tally_map_read(&map, bytes, sizeof bytes); }
 static void map_write(void) { answer = tally_map_write(map, bytes, sizeof bytes); }
 static void map_accept(void) { answer = tally_map_accept(map); }
@@ -79,9 +80,10 @@ static void measure(const char *name, int most, void (*call)(void), void (*spoil
 
 static void all_linked(void)
 {
-    map = (struct tally_map){.k = TALLY_STATIONS, .lot = 42};
+    map = (struct tally_map){.k = TALLY_STATIONS, .classes = TALLY_CLASSES, .lot = 42};
     for (unsigned i = 0; i < TALLY_STATIONS; i++) {
-        map.counts[i] = i % 2 ? TALLY_NO_READING : TALLY_NO_READING - 1;
+        for (unsigned j = 0; j < TALLY_CLASSES; j++)
+            map.counts[i][j] = (i + j) % 2 ? TALLY_NO_READING : TALLY_NO_READING - 1;
         map.neighbours[i] = ~((uint64_t)1 << i);
     }
 }
@@ -94,7 +96,8 @@ static void spoil_line(void) { line.stations[TALLY_STATIONS - 1].waits = TALLY_S
 
 static void stations(void)
 {
-    const struct tally_process asleep = {5, {{1, 0}, 6, 0, 2, TALLY_ASLEEP}}, ready = {5, {{1, 0}, 0, 1, 0, TALLY_ACTIVE}};
+    const struct tally_process asleep = {5, TALLY_CLASSES, {{{1}, {0}}, 6, 0, 2, TALLY_ASLEEP}},
+                               ready = {5, TALLY_CLASSES, {{{1}, {0}}, 0, 1, 0, TALLY_ACTIVE}};
     process = asleep;
     measure("tally_process_take_start", TALLY_PROCESS_STACK, take_start, spoil_process);
     process = asleep;

@@ -1,36 +1,37 @@
-use super::stations::{are_in_form, below, fresh as fresh_stations, in_state, is_bounded, is_in_range, member};
+use super::stations::{
+    are_bounded, are_in_form, below, fresh as fresh_stations, in_state, is_bounded, is_in_range, member,
+};
 use super::Refusal;
-use conformance::model::aggregate::Aggregate;
 use conformance::model::mail::{DELIVERY, REPORT};
 use conformance::model::map::Map;
-use conformance::model::net::Step;
+use conformance::model::net::{Config, Step};
 use conformance::model::station::{Station, ACTIVE, ASLEEP, FINISHED};
 
-/// The boxes are sets of receivers, one for each sender and kind of message, and what the answers bring: a sum, and a
-/// missing number in the lowest byte of a word. A start goes before an answer, and boxes past k or of a station to itself
-/// are left alone, as in the library.
+/// The boxes are sets of receivers, one for each sender and kind of message, and what the answers bring: a sum for each
+/// class, and its missing number in a byte of a word. A start goes before an answer, and boxes past k or of a station to
+/// itself are left alone, as in the library.
 #[derive(Clone, PartialEq)]
 pub struct Mail {
-    pub k: u8,
+    pub config: Config,
     pub stations: [Station; 64],
     pub starts: [u64; 64],
     pub answers: [u64; 64],
     pub missing: [[u64; 64]; 64],
-    pub sums: [[u64; 64]; 64],
+    pub sums: [[[u64; 64]; 64]; 8],
 }
 
 pub fn fresh(map: &Map) -> Mail {
     let mut starts = [0; 64];
     starts[0] = map.neighbours[0];
-    let (missing, sums) = ([[0; 64]; 64], [[0; 64]; 64]);
-    Mail { k: map.k, stations: fresh_stations(map), starts, answers: [0; 64], missing, sums }
+    let (missing, sums) = ([[0; 64]; 64], [[[0; 64]; 64]; 8]);
+    Mail { config: Config::of(map), stations: fresh_stations(map), starts, answers: [0; 64], missing, sums }
 }
 
 pub fn step(net: &mut Mail, step: Step) -> Result<Step, Refusal> {
     if !net.is_in_form() {
         return Err((11, 0));
     }
-    if !is_in_range(net.k, REPORT, step) {
+    if !is_in_range(net.config.k, REPORT, step) {
         return Err((12, 0));
     }
     if !net.is_allowed(step) {
@@ -57,11 +58,11 @@ pub fn run(net: &mut Mail, draws: &[u16]) -> Result<(usize, bool), usize> {
     let mut open = Open::of(net);
     for (steps, &draw) in draws.iter().enumerate() {
         let Some(step) = open.pick(net, draw) else { return Ok((steps, true)) };
-        net.make(step);
+        let has_joined = net.make(step);
         let receiver = &net.stations[usize::from(step.receiver)];
         open.follow(step.receiver, receiver.state);
         // the only thing that a step may take out of form
-        if !is_bounded(receiver.held) {
+        if has_joined && !is_bounded(&receiver.held, net.config.classes) {
             return Err(steps + 1);
         }
     }
@@ -70,13 +71,14 @@ pub fn run(net: &mut Mail, draws: &[u16]) -> Result<(usize, bool), usize> {
 
 impl Mail {
     fn is_in_form(&self) -> bool {
-        are_in_form(self.k, &self.stations) && (0..usize::from(self.k)).all(|sender| self.has_bounded_answers(sender))
+        are_in_form(self.config, &self.stations)
+            && (0..usize::from(self.config.k)).all(|sender| self.has_bounded_answers(sender))
     }
 
     fn has_bounded_answers(&self, sender: usize) -> bool {
-        let mut answers = self.answers[sender] & !self.starts[sender] & below(self.k) & !(1 << sender);
+        let mut answers = self.answers[sender] & !self.starts[sender] & below(self.config.k) & !(1 << sender);
         while answers != 0 {
-            if !is_bounded(self.brought(sender, answers.trailing_zeros() as usize)) {
+            if !self.brings_bounded(sender, answers.trailing_zeros() as usize) {
                 return false;
             }
             answers &= answers - 1;
@@ -84,9 +86,23 @@ impl Mail {
         true
     }
 
-    /// What an answer brings.
-    fn brought(&self, sender: usize, receiver: usize) -> Aggregate {
-        Aggregate { sum: self.sums[sender][receiver], missing: self.missing[sender][receiver] as u8 }
+    /// What an answer brings is in form.
+    fn brings_bounded(&self, sender: usize, receiver: usize) -> bool {
+        let classes = usize::from(self.config.classes);
+        are_bounded(
+            self.sums[..classes].iter().map(|sums| sums[sender][receiver]),
+            &self.missing[sender][receiver].to_le_bytes()[..classes],
+        )
+    }
+
+    /// Adds what an answer brings to its receiver.
+    fn take_answer(&mut self, sender: usize, receiver: usize) {
+        let held = &mut self.stations[receiver].held;
+        let missing = self.missing[sender][receiver].to_le_bytes();
+        for class in 0..usize::from(self.config.classes) {
+            held.sums[class] += self.sums[class][sender][receiver];
+            held.missing[class] += missing[class];
+        }
     }
 
     fn is_allowed(&self, Step { kind, sender, receiver }: Step) -> bool {
@@ -100,13 +116,15 @@ impl Mail {
                 || answers >> receiver & 1 != 0 && station.state == ACTIVE)
     }
 
-    fn make(&mut self, Step { kind, sender, receiver }: Step) {
+    /// Gives whether an answer was joined.
+    fn make(&mut self, Step { kind, sender, receiver }: Step) -> bool {
         let station = &mut self.stations[usize::from(receiver)];
         if kind == REPORT {
             station.state = FINISHED;
-            return;
+            return false;
         }
         let (from, to, bit) = (usize::from(sender), usize::from(receiver), 1 << receiver);
+        let brings_answer = self.starts[from] & bit == 0;
         if station.state == ASLEEP {
             station.parent = sender;
             station.waits = (station.unstarted.count_ones() as u8).saturating_sub(1);
@@ -116,9 +134,8 @@ impl Mail {
             self.answers[to] &= !others;
         } else {
             station.waits = station.waits.saturating_sub(1);
-            if self.starts[from] & bit == 0 {
-                station.held.sum += self.sums[from][to];
-                station.held.missing += self.missing[from][to] as u8;
+            if brings_answer {
+                self.take_answer(from, to);
             }
         }
         self.starts[from] &= !bit;
@@ -126,16 +143,22 @@ impl Mail {
         if receiver != 0 && self.stations[to].waits == 0 {
             self.post_answer(to);
         }
+        brings_answer
     }
 
     fn post_answer(&mut self, sender: usize) {
+        let classes = usize::from(self.config.classes);
         let station = &mut self.stations[sender];
         station.state = FINISHED;
-        let (parent, Aggregate { sum, missing }) = (station.parent, station.held);
+        let parent = station.parent;
         self.starts[sender] &= !(1 << parent);
         self.answers[sender] |= 1 << parent;
-        self.missing[sender][usize::from(parent)] = missing.into();
-        self.sums[sender][usize::from(parent)] = sum;
+        let mut missing = [0; 8];
+        missing[..classes].copy_from_slice(&station.held.missing[..classes]);
+        self.missing[sender][usize::from(parent)] = u64::from_le_bytes(missing);
+        for (class, sums) in self.sums.iter_mut().enumerate() {
+            sums[sender][usize::from(parent)] = if class < classes { station.held.sums[class] } else { 0 };
+        }
     }
 }
 
@@ -147,8 +170,8 @@ struct Open {
 
 impl Open {
     fn of(net: &Mail) -> Open {
-        let active = in_state(net.k, &net.stations, ACTIVE);
-        Open { to_starts: active | in_state(net.k, &net.stations, ASLEEP), to_answers: active }
+        let state = |state| in_state(net.config.k, &net.stations, state);
+        Open { to_starts: state(ACTIVE) | state(ASLEEP), to_answers: state(ACTIVE) }
     }
 
     /// The receivers that a sender's boxes can be delivered to: whoever takes an answer takes a start too.
@@ -158,7 +181,7 @@ impl Open {
 
     /// Entry d mod c of the allowed steps.
     fn pick(&self, net: &Mail, draw: u16) -> Option<Step> {
-        let senders = 0..usize::from(net.k);
+        let senders = 0..usize::from(net.config.k);
         let deliveries: u32 = senders.clone().map(|sender| self.deliveries(net, sender).count_ones()).sum();
         let reports = self.to_answers as u32 & 1 & u32::from(net.stations[0].waits == 0);
         if deliveries + reports == 0 {

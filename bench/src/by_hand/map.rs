@@ -1,57 +1,74 @@
 use super::Refusal;
 use conformance::model::map::Map;
 
-const ROW: usize = 12;
 const TRAILER: usize = 16;
+
+/// Of a set, after the counts of its row.
+const SET: usize = 8;
 
 pub fn read(bytes: &[u8], map: &mut Map) -> Result<(), Refusal> {
     let Some(start) = bytes.len().checked_sub(TRAILER) else { return Err((1, 0)) };
     let trailer = &bytes[start..];
-    if u16::from_le_bytes([trailer[2], trailer[3]]) != ROW as u16 {
+    let row = usize::from(u16::from_le_bytes([trailer[2], trailer[3]]));
+    if !(12..=40).contains(&row) || row % 4 != 0 {
         return Err((2, 0));
     }
     let k = usize::from(u16::from_le_bytes([trailer[0], trailer[1]]));
     if !(1..=64).contains(&k) {
         return Err((3, 0));
     }
-    if word(&trailer[4..]) as usize != ROW * k {
+    if word(&trailer[4..]) as usize != row * k {
         return Err((4, 0));
     }
-    let Some(first) = start.checked_sub(ROW * k) else { return Err((5, 0)) };
+    let Some(first) = start.checked_sub(row * k) else { return Err((5, 0)) };
     if bytes[first..].chunks_exact(4).fold(0, |sum: u32, four| sum.wrapping_add(word(four))) != 0 {
         return Err((6, 0));
     }
     let mut sets = [0; 64];
-    let rows = bytes[first..start].chunks_exact(ROW);
+    let rows = bytes[first..start].chunks_exact(row);
     for (set, row) in sets.iter_mut().zip(rows.clone()) {
-        *set = u64::from(word(&row[4..])) | u64::from(word(&row[8..])) << 32;
+        let at = row.len() - SET;
+        *set = u64::from(word(&row[at..])) | u64::from(word(&row[at + 4..])) << 32;
     }
     accept(&sets[..k])?;
-    *map = Map { k: k as u8, lot: word(&trailer[8..]), counts: [0; 64], neighbours: sets };
-    for (count, row) in map.counts.iter_mut().zip(rows) {
-        *count = word(row);
+    let classes = (row - SET) / 4;
+    let counts = [[0; 8]; 64];
+    *map = Map { k: k as u8, classes: classes as u8, lot: word(&trailer[8..]), counts, neighbours: sets };
+    for (counts, row) in map.counts.iter_mut().zip(rows) {
+        for (count, four) in counts.iter_mut().zip(row[..row.len() - SET].chunks_exact(4)) {
+            *count = word(four);
+        }
     }
     Ok(())
 }
 
 pub fn write(map: &Map, buffer: &mut [u8]) -> Result<(), Refusal> {
+    if !(1..=8).contains(&map.classes) {
+        return Err((2, 0));
+    }
     if !(1..=64).contains(&map.k) {
         return Err((3, 0));
     }
-    let k = usize::from(map.k);
+    let (k, classes) = (usize::from(map.k), usize::from(map.classes));
     accept(&map.neighbours[..k])?;
-    let needed = ROW * k + TRAILER;
+    let row_length = 4 * classes + SET;
+    let needed = row_length * k + TRAILER;
     let Some(filled) = buffer.get_mut(..needed) else { return Err((15, needed as u32)) };
-    let (rows, trailer) = filled.split_at_mut(ROW * k);
+    let (rows, trailer) = filled.split_at_mut(row_length * k);
     let mut sum = 0u32;
-    for ((row, count), set) in rows.chunks_exact_mut(ROW).zip(map.counts).zip(map.neighbours) {
-        row[..4].copy_from_slice(&count.to_le_bytes());
-        row[4..].copy_from_slice(&set.to_le_bytes());
-        sum = sum.wrapping_add(count).wrapping_add(set as u32).wrapping_add((set >> 32) as u32);
+    for ((row, counts), set) in rows.chunks_exact_mut(row_length).zip(&map.counts).zip(map.neighbours) {
+        let (stored, tail) = row.split_at_mut(4 * classes);
+        for (four, count) in stored.chunks_exact_mut(4).zip(counts) {
+            four.copy_from_slice(&count.to_le_bytes());
+            sum = sum.wrapping_add(*count);
+        }
+        tail.copy_from_slice(&set.to_le_bytes());
+        sum = sum.wrapping_add(set as u32).wrapping_add((set >> 32) as u32);
     }
-    for (at, field) in [u32::from(map.k) | (ROW as u32) << 16, (ROW * k) as u32, map.lot].into_iter().enumerate() {
-        trailer[4 * at..4 * at + 4].copy_from_slice(&field.to_le_bytes());
-        sum = sum.wrapping_add(field);
+    let numbers = [u32::from(map.k) | (row_length as u32) << 16, (row_length * k) as u32, map.lot];
+    for (four, number) in trailer.chunks_exact_mut(4).zip(numbers) {
+        four.copy_from_slice(&number.to_le_bytes());
+        sum = sum.wrapping_add(number);
     }
     trailer[12..].copy_from_slice(&sum.wrapping_neg().to_le_bytes());
     Ok(())

@@ -1,19 +1,19 @@
-use super::stations::{are_in_form, fresh as fresh_stations, in_state, is_bounded, is_in_range, member};
+use super::stations::{are_in_form, fresh as fresh_stations, in_state, is_bounded, is_in_range, join, member};
 use super::Refusal;
 use conformance::model::map::Map;
 use conformance::model::meet::{Meet, ANSWER, PASS, REPORT, WAKE};
-use conformance::model::net::Step;
+use conformance::model::net::{Config, Step};
 use conformance::model::station::{Station, ACTIVE, ASLEEP, FINISHED};
 
 pub fn fresh(map: &Map) -> Meet {
-    Meet { k: map.k, stations: fresh_stations(map) }
+    Meet { config: Config::of(map), stations: fresh_stations(map) }
 }
 
 pub fn step(net: &mut Meet, step: Step) -> Result<Step, Refusal> {
-    if !are_in_form(net.k, &net.stations) {
+    if !are_in_form(net.config, &net.stations) {
         return Err((11, 0));
     }
-    if !is_in_range(net.k, REPORT, step) {
+    if !is_in_range(net.config.k, REPORT, step) {
         return Err((12, 0));
     }
     if !is_allowed(net, step) {
@@ -24,7 +24,7 @@ pub fn step(net: &mut Meet, step: Step) -> Result<Step, Refusal> {
 }
 
 pub fn draw(net: &mut Meet, draw: u16) -> Result<Step, Refusal> {
-    if !are_in_form(net.k, &net.stations) {
+    if !are_in_form(net.config, &net.stations) {
         return Err((11, 0));
     }
     let step = Awake::of(net).pick(net, draw).ok_or((14, 0))?;
@@ -34,7 +34,7 @@ pub fn draw(net: &mut Meet, draw: u16) -> Result<Step, Refusal> {
 
 /// The steps made, and whether the net is at rest; the same with 11 where it leaves the form.
 pub fn run(net: &mut Meet, draws: &[u16]) -> Result<(usize, bool), usize> {
-    if !are_in_form(net.k, &net.stations) {
+    if !are_in_form(net.config, &net.stations) {
         return Err(0);
     }
     let mut awake = Awake::of(net);
@@ -43,7 +43,7 @@ pub fn run(net: &mut Meet, draws: &[u16]) -> Result<(usize, bool), usize> {
         make(net, step);
         awake.follow(step);
         // the only thing that a step may take out of form
-        if !is_bounded(net.stations[usize::from(step.receiver)].held) {
+        if step.kind == ANSWER && !is_bounded(&net.stations[usize::from(step.receiver)].held, net.config.classes) {
             return Err(steps + 1);
         }
     }
@@ -58,7 +58,7 @@ struct Awake {
 
 impl Awake {
     fn of(net: &Meet) -> Awake {
-        let set = |state| in_state(net.k, &net.stations, state);
+        let set = |state| in_state(net.config.k, &net.stations, state);
         Awake { asleep: set(ASLEEP), active: set(ACTIVE) }
     }
 
@@ -134,27 +134,29 @@ fn is_allowed(net: &Meet, Step { kind, sender, receiver }: Step) -> bool {
 }
 
 fn make(net: &mut Meet, Step { kind, sender, receiver }: Step) {
-    let from = &mut net.stations[usize::from(sender)];
-    if kind == WAKE || kind == PASS {
-        from.unstarted &= !(1 << receiver);
-        let to = &mut net.stations[usize::from(receiver)];
-        if kind == PASS {
-            to.waits = to.waits.saturating_sub(1);
-            return;
-        }
-        to.parent = sender;
-        to.waits = (to.unstarted.count_ones() as u8).saturating_sub(1);
-        to.unstarted &= !(1 << sender);
-        to.state = ACTIVE;
+    if kind == REPORT {
+        net.stations[0].state = FINISHED;
         return;
     }
-    from.state = FINISHED;
-    if kind == ANSWER {
-        let given = from.held;
-        let to = &mut net.stations[usize::from(receiver)];
-        to.held.sum += given.sum;
-        to.held.missing += given.missing;
-        to.waits = to.waits.saturating_sub(1);
+    let places = [usize::from(sender), usize::from(receiver)];
+    let [from, to] = net.stations.get_disjoint_mut(places).expect("two stations");
+    match kind {
+        WAKE => {
+            from.unstarted &= !(1 << receiver);
+            to.parent = sender;
+            to.waits = (to.unstarted.count_ones() as u8).saturating_sub(1);
+            to.unstarted &= !(1 << sender);
+            to.state = ACTIVE;
+        }
+        PASS => {
+            from.unstarted &= !(1 << receiver);
+            to.waits = to.waits.saturating_sub(1);
+        }
+        _ => {
+            from.state = FINISHED;
+            join(&mut to.held, &from.held, net.config.classes);
+            to.waits = to.waits.saturating_sub(1);
+        }
     }
 }
 

@@ -2,24 +2,29 @@
 
 use conformance::model::aggregate::{Aggregate, MOST_MISSING, NO_READING, SUM_LIMIT};
 use conformance::model::map::Map;
-use conformance::model::net::Step;
-use conformance::model::station::{Station, ACTIVE, ASLEEP, FINISHED};
+use conformance::model::net::{Config, Step};
+use conformance::model::station::{Station, ACTIVE, FINISHED};
 
 pub fn fresh(map: &Map) -> [Station; 64] {
     let mut stations = [Station::default(); 64];
-    for (station, (&count, &set)) in stations.iter_mut().zip(map.counts.iter().zip(&map.neighbours)).take(map.k.into())
-    {
-        let is_missing = count == NO_READING;
-        let held = Aggregate { sum: if is_missing { 0 } else { count.into() }, missing: is_missing.into() };
-        let waits = set.count_ones() as u8;
-        *station = Station { held, unstarted: set, parent: 0, waits, state: ASLEEP };
+    let rows = map.counts.iter().zip(&map.neighbours).take(map.k.into());
+    for (station, (counts, &set)) in stations.iter_mut().zip(rows) {
+        for (class, &count) in counts[..map.classes.into()].iter().enumerate() {
+            if count == NO_READING {
+                station.held.missing[class] = 1;
+            } else {
+                station.held.sums[class] = count.into();
+            }
+        }
+        station.unstarted = set;
+        station.waits = set.count_ones() as u8;
     }
     stations[0].state = ACTIVE;
     stations
 }
 
-pub fn are_in_form(k: u8, stations: &[Station; 64]) -> bool {
-    if !(1..=64).contains(&k) {
+pub fn are_in_form(Config { k, classes }: Config, stations: &[Station; 64]) -> bool {
+    if !(1..=64).contains(&k) || !(1..=8).contains(&classes) {
         return false;
     }
     let below_k = below(k);
@@ -29,13 +34,29 @@ pub fn are_in_form(k: u8, stations: &[Station; 64]) -> bool {
             && station.unstarted & !below_k == 0
             && station.unstarted >> own & 1 == 0
             && station.waits <= 64
-            && is_bounded(station.held)
+            && is_bounded(&station.held, classes)
             && (own == 0 || usize::from(station.parent) != own)
     })
 }
 
-pub fn is_bounded(held: Aggregate) -> bool {
-    held.sum < SUM_LIMIT && held.missing <= MOST_MISSING
+pub fn is_bounded(held: &Aggregate, classes: u8) -> bool {
+    let classes = usize::from(classes);
+    are_bounded(held.sums[..classes].iter().copied(), &held.missing[..classes])
+}
+
+/// Sums are below a power of two just when all their bits together are.
+pub fn are_bounded(sums: impl Iterator<Item = u64>, missing: &[u8]) -> bool {
+    sums.fold(0, |bits, sum| bits | sum) < SUM_LIMIT && missing.iter().all(|&missing| missing <= MOST_MISSING)
+}
+
+pub fn join(held: &mut Aggregate, given: &Aggregate, classes: u8) {
+    let classes = usize::from(classes);
+    for (sum, given) in held.sums[..classes].iter_mut().zip(&given.sums[..classes]) {
+        *sum += given;
+    }
+    for (missing, given) in held.missing[..classes].iter_mut().zip(&given.missing[..classes]) {
+        *missing += given;
+    }
 }
 
 /// All stations of k, which is not 0.

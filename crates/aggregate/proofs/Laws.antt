@@ -1,126 +1,158 @@
--- What the crates above know of aggregates: sums as numbers, what stays bounded, and what a valid configuration says. Each is
--- the definition and arithmetic. Assumes nothing.
-use mathlib.Core.Path.{_≡_, refl, ap, _∙_}
+-- What the crates above know of aggregates: the cells of a join are the cells joined, the cells of what is given are the cells, a bounded
+-- aggregate is one of bounded cells, and what a valid configuration says. Each is the definition, place by place. Assumes nothing.
+use mathlib.Core.Path.{_≡_, refl, sym, ap, ap₂, _∙_, fun-ext}
 use mathlib.Core.Bool.{Bool, true, false, cond}
-use Prim.Native.Nat.{ℕ, zero, suc, _+_, _*_, _-_, _^_, _<_, _≤_}
+use mathlib.Core.List.{List}
+use Prim.Native.Nat.{ℕ, _-_, _^_, _<_, _≤_}
 use native.Mathlib.Omega.{arith}
-use lib.Dec.{ltb, leb}
-use borrow.Author.Tests.{ltb-true, lt-ltb, leb-true, le-leb}
-use Rattle.finite.specs.Sum.{foldTo}
-use Rattle.finite.specs.internal.Monoid.{addition, sumTo}
+use lib.Dec.{leb, ltb}
+use lib.ListN.{getD, getD-replicate}
+use borrow.Author.Tests.{leb-true, le-leb, ltb-true, lt-ltb}
+use Rattle.finite.specs.Below.{allBelow}
 use Rattle.finite.proofs.Cases.{by-bool, and-both}
+use Rattle.finite.proofs.Below.{getD-tabulate, tabulate-ext, all-below, all-below-at, all-below-ext}
+use Rattle.bitset.specs.Set.{isStationCount}
 use Rattle.aggregate.specs.declared.Config.{Config}
 use Rattle.aggregate.specs.declared.Reading.{Reading}
+use Rattle.aggregate.specs.declared.Cell.{Cell}
 use Rattle.aggregate.specs.declared.Aggregate.{Aggregate}
-use Rattle.aggregate.specs.Aggregate.{rootOf, valid, sumOf, missingOf, bounded, nothing, isMissing, gathered, joined}
-use Rattle.aggregate.specs.internal.Joining.{joining}
+use Rattle.aggregate.specs.Aggregate.{rootOf, isClassCount, valid, used, cell, places, zeroCell, nothing, cellBounded, bounded}
+use Rattle.aggregate.specs.Aggregate.{cellGathered, gathered, cellJoined, joined, clipped}
+use Rattle.aggregate.specs.internal.Joining.{pair, cell-zero, cells, joining}
 
--- k of a valid configuration
-pub valid-k : (t : Config) → valid t ≡ true → (1 ≤ t .k) × (t .k ≤ 64)
-unfolding valid
-valid-k t h = let both = and-both (leb 1 (t .k)) (leb (t .k) 64) h in (leb-true 1 (t .k) (both .0), leb-true (t .k) 64 (both .1))
+-- so many classes
+pub class-count : (c : ℕ) → isClassCount c ≡ true → (1 ≤ c) × (c ≤ 8)
+class-count c h = let both = and-both (ltb 0 c) (leb c 8) h in (ltb-true 0 c (both .0), leb-true c 8 (both .1))
 
--- the root is one of the stations
-pub root-below : (t : Config) → valid t ≡ true → rootOf t < t .k
+module _ (t : Config) (h : valid t ≡ true) where
+  pub valid-parts : (isStationCount (t .k) ≡ true) × (isClassCount (t .classes) ≡ true)
+  unfolding valid
+  valid-parts = and-both (isStationCount (t .k)) (isClassCount (t .classes)) h
+
+  -- k of a valid configuration
+  pub valid-k : (1 ≤ t .k) × (t .k ≤ 64)
+  valid-k = let k = and-both (ltb 0 (t .k)) (leb (t .k) 64) (valid-parts .0) in (ltb-true 0 (t .k) (k .0), leb-true (t .k) 64 (k .1))
+
+  -- the root is one of the stations
+  pub root-below : rootOf t < t .k
+  unfolding rootOf
+  root-below = valid-k .0
+
+-- the root is the same for every configuration
+pub root-alike : (t u : Config) → rootOf t ≡ rootOf u
 unfolding rootOf
-root-below t h = valid-k t h .0
+root-alike t u = refl
 
--- it is the same for every number of stations
-pub root-any-k : (k l : ℕ) → rootOf (record { k = k }) ≡ rootOf (record { k = l })
-unfolding rootOf
-root-any-k k l = refl
+-- the bounds at their edges, by computation: "sums and posted sums below 2^62" (document 01, Causes and numbers), "A missing number above
+-- 64 is out of form" (document 02, request 1)
+last-bounded : cellBounded (record { sum = 2 ^ 62 - 1; missing = 64 }) ≡ true
+unfolding cellBounded
+last-bounded = refl
+
+first-unbounded : (cellBounded (record { sum = 2 ^ 62; missing = 64 }) ≡ false) × (cellBounded (record { sum = 2 ^ 62 - 1; missing = 65 }) ≡ false)
+unfolding cellBounded
+first-unbounded = (refl, refl)
+
+pub cell-parts : (x : Cell) → cellBounded x ≡ true → (x .sum < 2 ^ 62) × (x .missing ≤ 64)
+unfolding cellBounded
+cell-parts x h =
+    let both = and-both (ltb (x .sum) (2 ^ 62)) (leb (x .missing) 64) h in
+    (ltb-true (x .sum) (2 ^ 62) (both .0), leb-true (x .missing) 64 (both .1))
+
+pub parts-bounded : (x : Cell) → x .sum < 2 ^ 62 → x .missing ≤ 64 → cellBounded x ≡ true
+unfolding cellBounded
+parts-bounded x s m = rw (lt-ltb (x .sum) (2 ^ 62) s, le-leb (x .missing) 64 m)
+
+-- a place given by f
+pub cell-places : (f : ℕ → Cell) (i : ℕ) → i < 8 → cell (places f) i ≡ f i
+cell-places f i l = pair (getD-tabulate (λ j. f j .sum) 8 i 0 l) (getD-tabulate (λ j. f j .missing) 8 i 0 l)
+
+-- places given alike are alike
+pub places-ext : (f g : ℕ → Cell) → ((i : ℕ) → i < 8 → f i ≡ g i) → places f ≡ places g
+places-ext f g h =
+    ap₂ (λ (s m : List ℕ). record { sums = s; missing = m })
+    (tabulate-ext 8 _ _ (λ i l. ap (λ (x : Cell). x .sum) (h i l)))
+    (tabulate-ext 8 _ _ (λ i l. ap (λ (x : Cell). x .missing) (h i l)))
 
 module _ (t : Config) where
-  pub sum-gathered : (r : Reading) → sumOf (gathered t r) ≡ cond (isMissing (r .count)) 0 (r .count)
+  -- a class in use is one of the eight places
+  pub low : (i : ℕ) → ltb i (used t) ≡ true → i < 8
+  low i e = let l = ltb-true i (used t) e in omega arith
+
+  -- the cells of places that f gives where the class is in use
+  cells-places : (f old : ℕ → Cell) (i : ℕ) → cells t (places (λ j. cond (ltb j (used t)) (f j) (old j))) i ≡ cond (ltb i (used t)) (f i) zeroCell
+  unfolding cells
+  cells-places f old i =
+      by-bool (ltb i (used t))
+      (λ e. ap (λ (b : Bool). cond b (cell (places (λ j. cond (ltb j (used t)) (f j) (old j))) i) zeroCell) e
+      ∙ cell-places (λ j. cond (ltb j (used t)) (f j) (old j)) i (low i e)
+      ∙ ap (λ (b : Bool). cond b (f i) (old i)) e
+      ∙ sym (ap (λ (b : Bool). cond b (f i) zeroCell) e))
+      (λ e. ap (λ (b : Bool). cond b (cell (places (λ j. cond (ltb j (used t)) (f j) (old j))) i) zeroCell) e
+      ∙ sym (ap (λ (b : Bool). cond b (f i) zeroCell) e))
+
+  -- the cells of a join are the cells, joined
+  pub cells-joined : (a b : Aggregate) → cells t (joined t a b) ≡ joining .add (cells t a) (cells t b)
+  unfolding joined cells
+  cells-joined a b =
+      fun-ext (λ i.
+      cells-places (λ j. cellJoined (cell a j) (cell b j)) (cell a) i
+      ∙ by-bool (ltb i (used t)) (λ e. rw e) (λ e. rw e (sym (cell-zero zeroCell))))
+
+  -- what is given has the cells of what is held
+  pub cells-clipped : (a : Aggregate) → cells t (clipped t a) ≡ cells t a
+  unfolding clipped cells
+  cells-clipped a = fun-ext (λ i. cells-places (cell a) (λ j. zeroCell) i)
+
+  -- a class in use of what is given
+  cell-clipped : (a : Aggregate) (i : ℕ) → i < 8 → ltb i (used t) ≡ true → cell (clipped t a) i ≡ cell a i
+  unfolding clipped
+  cell-clipped a i l e = cell-places (λ j. cond (ltb j (used t)) (cell a j) zeroCell) i l ∙ rw e
+
+  -- the cells of a reading
+  pub cells-gathered : (r : Reading) (i : ℕ) → i < used t → cells t (gathered t r) i ≡ cellGathered (getD (r .counts) i 0)
   unfolding gathered
-  sum-gathered r = by-bool (isMissing (r .count)) (λ e. rw e) (λ e. rw e)
+  cells-gathered r i l = cells-places (λ j. cellGathered (getD (r .counts) j 0)) (λ j. zeroCell) i ∙ rw (lt-ltb i (used t) l)
 
-  pub missing-gathered : (r : Reading) → missingOf (gathered t r) ≡ cond (isMissing (r .count)) 1 0
-  unfolding gathered
-  missing-gathered r = by-bool (isMissing (r .count)) (λ e. rw e) (λ e. rw e)
+  -- a class in use
+  pub cells-used : (a : Aggregate) (i : ℕ) → i < used t → cells t a i ≡ cell a i
+  unfolding cells
+  cells-used a i l = rw (lt-ltb i (used t) l)
 
-  sum-joined : (a b : Aggregate) → sumOf (joined t a b) ≡ sumOf a + sumOf b
+  -- bounded is said of the cells
+  pub bounded-cells : (a : Aggregate) → bounded t a ≡ allBelow (used t) (λ i. cellBounded (cells t a i))
+  unfolding bounded
+  bounded-cells a = all-below-ext (used t) _ _ (λ i l. ap cellBounded (sym (cells-used a i l)))
+
+  pub bounded-at : (a : Aggregate) → bounded t a ≡ true → (i : ℕ) → i < used t → cellBounded (cell a i) ≡ true
+  unfolding bounded
+  bounded-at a h i l = all-below-at (λ j. cellBounded (cell a j)) (used t) i h l
+
+  -- so what is given is bounded where what is held is
+  pub clipped-bounded : (a : Aggregate) → bounded t (clipped t a) ≡ bounded t a
+  clipped-bounded a =
+      bounded-cells (clipped t a)
+      ∙ ap (λ (f : ℕ → Cell). allBelow (used t) (λ i. cellBounded (f i))) (cells-clipped a)
+      ∙ sym (bounded-cells a)
+
+  -- joining what is given is joining what is held
+  pub joined-clipped : (a b : Aggregate) → joined t a (clipped t b) ≡ joined t a b
   unfolding joined
-  sum-joined a b = refl
-
-  missing-joined : (a b : Aggregate) → missingOf (joined t a b) ≡ missingOf a + missingOf b
-  unfolding joined
-  missing-joined a b = refl
-
-  -- aggregates joined station by station are their sums added, and their missing numbers
-  pub sum-total : (k : ℕ) (f : ℕ → Aggregate) → sumOf (sumTo (joining t) k f) ≡ sumTo addition k (λ i. sumOf (f i))
-  unfolding foldTo
-  sum-total zero f = refl
-  sum-total (suc k) f = sum-joined (sumTo (joining t) k f) (f k) ∙ ap (λ (n : ℕ). n + sumOf (f k)) (sum-total k f)
-
-  pub missing-total : (k : ℕ) (f : ℕ → Aggregate) → missingOf (sumTo (joining t) k f) ≡ sumTo addition k (λ i. missingOf (f i))
-  unfolding foldTo
-  missing-total zero f = refl
-  missing-total (suc k) f = missing-joined (sumTo (joining t) k f) (f k) ∙ ap (λ (n : ℕ). n + missingOf (f k)) (missing-total k f)
-
-  -- the bounds at their edges, by computation: "sums and posted sums below 2^62" (document 01, Causes and numbers), "A missing number above
-  -- 64 is out of form" (document 02, request 1)
-  last-bounded : bounded t (record { sum = 2 ^ 62 - 1; missing = 64 }) ≡ true
-  unfolding bounded
-  last-bounded = refl
-
-  first-unbounded : (bounded t (record { sum = 2 ^ 62; missing = 64 }) ≡ false) × (bounded t (record { sum = 2 ^ 62 - 1; missing = 65 }) ≡ false)
-  unfolding bounded
-  first-unbounded = (refl, refl)
-
-  pub bounded-parts : (a : Aggregate) → bounded t a ≡ true → (sumOf a < 2 ^ 62) × (missingOf a ≤ 64)
-  unfolding bounded
-  bounded-parts a h =
-      let both = and-both (ltb (sumOf a) (2 ^ 62)) (leb (missingOf a) 64) h in
-      (ltb-true (sumOf a) (2 ^ 62) (both .0), leb-true (missingOf a) 64 (both .1))
-
-  parts-bounded : (a : Aggregate) → sumOf a < 2 ^ 62 → missingOf a ≤ 64 → bounded t a ≡ true
-  unfolding bounded
-  parts-bounded a s m = rw (lt-ltb (sumOf a) (2 ^ 62) s, le-leb (missingOf a) 64 m)
+  joined-clipped a b =
+      places-ext _ _ (λ i l. by-bool (ltb i (used t)) (λ e. rw (e, cell-clipped b i l e)) (λ e. rw e))
 
   pub nothing-bounded : bounded t nothing ≡ true
+  unfolding bounded nothing
+  nothing-bounded =
+      all-below (λ i. cellBounded (cell nothing i)) (used t)
+      (λ i l. ap cellBounded (pair (getD-replicate 8 i 0 0 (omega arith)) (getD-replicate 8 i 0 0 (omega arith))) ∙ parts-bounded zeroCell (omega arith) (omega arith))
+
+-- joining and being bounded ask of the configuration only the classes
+module _ (t u : Config) (c : t .classes ≡ u .classes) where
+  pub joined-alike : (a b : Aggregate) → joined t a b ≡ joined u a b
+  unfolding joined
+  joined-alike a b = rw c
+
+  pub bounded-alike : (a : Aggregate) → bounded t a ≡ bounded u a
   unfolding bounded
-  nothing-bounded = refl
-
-  -- each part of a bounded join is bounded
-  pub part-bounded : (a b : Aggregate) → bounded t (joined t a b) ≡ true → bounded t a ≡ true
-  part-bounded a b h =
-      let both = bounded-parts (joined t a b) h in
-      parts-bounded a (omega (arith, both .0, sum-joined a b)) (omega (arith, both .1, missing-joined a b))
-
-  -- a join of bounded parts has a missing number that is a byte
-  pub joined-byte : (a b : Aggregate) → bounded t a ≡ true → bounded t b ≡ true → missingOf (joined t a b) < 256
-  joined-byte a b h g = omega (arith, bounded-parts a h .1, bounded-parts b g .1, missing-joined a b)
-
-  -- the readings of n stations add up to n × 2^32 at most, and n of them are missing at most
-  readings-le : (n : ℕ) (r : ℕ → Reading) → ((i : ℕ) → i < n → r i .count < 2 ^ 32)
-      → (sumOf (sumTo (joining t) n (λ i. gathered t (r i))) ≤ n * 2 ^ 32) × (missingOf (sumTo (joining t) n (λ i. gathered t (r i))) ≤ n)
-  unfolding foldTo
-  readings-le zero r h = (omega arith, omega arith)
-  readings-le (suc n) r h =
-      let before = readings-le n r (λ i l. h i (omega arith)) in
-      let small = h n (omega arith) in
-      let all = sumTo (joining t) n (λ i. gathered t (r i)) in
-      by-bool (isMissing (r n .count))
-      (λ e. (
-        omega (arith, sum-joined all (gathered t (r n)), sum-gathered (r n) ∙ ap (λ (b : Bool). cond b 0 (r n .count)) e, before .0),
-        omega (arith, missing-joined all (gathered t (r n)), missing-gathered (r n) ∙ ap (λ (b : Bool). cond b 1 0) e, before .1),
-      ))
-      (λ e. (
-        omega (arith, sum-joined all (gathered t (r n)), sum-gathered (r n) ∙ ap (λ (b : Bool). cond b 0 (r n .count)) e, before .0, small),
-        omega (arith, missing-joined all (gathered t (r n)), missing-gathered (r n) ∙ ap (λ (b : Bool). cond b 1 0) e, before .1),
-      ))
-
-  -- so all of them together are bounded
-  pub total-bounded : (k : ℕ) (r : ℕ → Reading) → k ≤ 64 → ((i : ℕ) → i < k → r i .count < 2 ^ 32)
-      → bounded t (sumTo (joining t) k (λ i. gathered t (r i))) ≡ true
-  total-bounded k r l h = let all = readings-le k r h in parts-bounded _ (omega (arith, all .0)) (omega (arith, all .1))
-
--- joining and the bounds are the same for every number of stations
-pub joined-any-k : (t u : Config) (a b : Aggregate) → joined t a b ≡ joined u a b
-unfolding joined
-joined-any-k t u a b = refl
-
-pub bounded-any-k : (t u : Config) (a : Aggregate) → bounded t a ≡ bounded u a
-unfolding bounded
-bounded-any-k t u a = refl
+  bounded-alike a = rw c

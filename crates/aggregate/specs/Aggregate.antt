@@ -1,57 +1,95 @@
--- What a net is opened with, and what its stations gather and join (document 01). Nothing above this crate looks inside these records.
-use Prim.Native.Nat.{ℕ, _+_, _%_, _^_}
+-- What a net is opened with, and what its stations gather and join, class by class (documents 01 and 02). Nothing above this crate looks
+-- inside these records.
+use Prim.Native.Nat.{ℕ, _+_, _^_, min}
 use mathlib.Core.Bool.{Bool, _&&_, cond}
+use mathlib.Core.List.{[]}
 use lib.Dec.{eqb, ltb, leb}
+use lib.ListN.{getD, replicate}
+use Rattle.finite.specs.Below.{allBelow, tabulate}
+use Rattle.finite.specs.Numbers.{number, bytes}
 use Rattle.bitset.specs.Set.{isStationCount}
 use Rattle.aggregate.specs.declared.Config.{Config}
 use Rattle.aggregate.specs.declared.Reading.{Reading}
+use Rattle.aggregate.specs.declared.Cell.{Cell}
 use Rattle.aggregate.specs.declared.Aggregate.{Aggregate}
 
 -- "station 0 is the desk" (The line map)
 unfoldable pub rootOf : Config → ℕ
 rootOf t = 0
 
--- "k 1 to 64" (Causes and numbers, form)
+-- "c counts, 1 to 8" (document 02, request 2)
+abbrev pub isClassCount : ℕ → Bool
+isClassCount c = ltb 0 c && leb c 8
+
+-- "k 1 to 64" (Causes and numbers, form); "a net or station with such a c is out of form" (document 02, request 2)
 unfoldable pub valid : Config → Bool
-valid t = isStationCount (t .k)
+valid t = isStationCount (t .k) && isClassCount (t .classes)
 
--- the sum, as a number
-abbrev pub sumOf : Aggregate → ℕ
-sumOf a = a .sum
+-- the classes in use: c, of eight places
+abbrev pub used : Config → ℕ
+used t = min (t .classes) 8
 
--- "a number of missing readings" (document 02, request 1)
-abbrev pub missingOf : Aggregate → ℕ
-missingOf a = a .missing
+-- class i, counted from 0
+abbrev pub cell : Aggregate → ℕ → Cell
+cell a i = record { sum = getD (a .sums) i 0; missing = getD (a .missing) i 0 }
+
+-- the eight places given by f
+abbrev pub places : (ℕ → Cell) → Aggregate
+places f = record { sums = tabulate 8 (λ i. f i .sum); missing = tabulate 8 (λ i. f i .missing) }
+
+-- nothing gathered of a class
+abbrev pub zeroCell : Cell
+zeroCell = record { sum = 0; missing = 0 }
+
+-- nothing gathered of any
+unfoldable pub nothing : Aggregate
+nothing = record { sums = replicate 8 0; missing = replicate 8 0 }
 
 -- "sums and posted sums below 2^62" (Causes and numbers, form); "A missing number above 64 is out of form" (document 02, request 1)
-unfoldable pub bounded : Config → Aggregate → Bool
-bounded t a = ltb (sumOf a) (2 ^ 62) && leb (missingOf a) 64
+unfoldable pub cellBounded : Cell → Bool
+cellBounded x = ltb (x .sum) (2 ^ 62) && leb (x .missing) 64
 
--- nothing gathered
-abbrev pub nothing : Aggregate
-nothing = record { sum = 0; missing = 0 }
+-- so in every class in use: "places past c go as those past k" (document 02, request 2)
+unfoldable pub bounded : Config → Aggregate → Bool
+bounded t a = allBelow (used t) (λ i. cellBounded (cell a i))
 
 -- "sends 4294967295 when its lamp failed and it has no reading" (document 02, request 1)
 abbrev pub isMissing : ℕ → Bool
 isMissing count = eqb count 4294967295
 
--- "sums are the counts" (Stations that meet, fresh): what one reading gives; a missing one "adds nothing to a sum and one to a number of
+-- "sums are the counts" (Stations that meet, fresh): what one count gives; a missing one "adds nothing to a sum and one to a number of
 -- missing readings" (document 02, request 1)
+unfoldable pub cellGathered : ℕ → Cell
+cellGathered count = cond (isMissing count) (record { sum = 0; missing = 1 }) (record { sum = count; missing = 0 })
+
+-- what a reading gives, class by class; zero past c
 unfoldable pub gathered : Config → Reading → Aggregate
-gathered t r = cond (isMissing (r .count)) (record { sum = 0; missing = 1 }) (record { sum = r .count; missing = 0 })
+gathered t r = places (λ i. cond (ltb i (used t)) (cellGathered (getD (r .counts) i 0)) zeroCell)
 
 -- "v is added" (One station), and so is its missing number
-unfoldable pub joined : Config → Aggregate → Aggregate → Aggregate
-joined t a b = record { sum = sumOf a + sumOf b; missing = missingOf a + missingOf b }
+unfoldable pub cellJoined : Cell → Cell → Cell
+cellJoined x y = record { sum = x .sum + y .sum; missing = x .missing + y .missing }
 
--- both are bounded, so their join is a number of 64 bits
+-- class by class; the first's places past c stay
+unfoldable pub joined : Config → Aggregate → Aggregate → Aggregate
+joined t a b = places (λ i. cond (ltb i (used t)) (cellJoined (cell a i) (cell b i)) (cell a i))
+
+-- both are bounded, so their join is made of numbers of 64 and of 8 bits
 abbrev pub joinable : Config → Aggregate → Aggregate → Bool
 joinable t a b = bounded t a && bounded t b
 
--- an aggregate in two words: its sum, and its missing number in the lowest byte of the other
-abbrev pub fromWords : ℕ → ℕ → Aggregate
-fromWords sum missing = record { sum = sum; missing = missing % 256 }
+-- "what a station gives or posts has zero there" (document 02, request 2): past c
+unfoldable pub clipped : Config → Aggregate → Aggregate
+clipped t a = places (λ i. cond (ltb i (used t)) (cell a i) zeroCell)
 
--- the word of the missing number
-abbrev pub missingWord : Aggregate → ℕ
-missingWord a = missingOf a
+-- the missing numbers in one word, a byte each, class 0 lowest
+unfoldable pub missingWord : Aggregate → ℕ
+missingWord a = number (a .missing) 0 8
+
+-- the aggregate of a sum for each class in use and of such a word
+unfoldable pub fromWords : Config → (ℕ → ℕ) → ℕ → Aggregate
+fromWords t sums word = places (λ i. cond (ltb i (used t)) (record { sum = sums i; missing = getD (bytes 8 word) i 0 }) zeroCell)
+
+-- what stands past the end of a list of these: the language's default, which no rule speaks of
+abbrev pub absent : Aggregate
+absent = record { sums = []; missing = [] }

@@ -1,28 +1,46 @@
-// What a station has gathered and how two of these are joined. The crates above look inside neither record.
+// What a station has gathered, class by class, and how two of these are joined. The crates above look inside none of these records.
 ghost use mathlib.Core.Path.{_≡_};
-ghost use mathlib.Core.Bool.{cond};
-ghost use Rattle.aggregate.specs.Aggregate.{rootOf, valid, sumOf, missingOf, bounded, nothing, gathered, joined, joinable, fromWords, missingWord};
+ghost use mathlib.Core.Bool.{true, cond};
+ghost use Prim.Native.Nat.{ℕ, _<_};
+ghost use lib.ListN.{getD};
+ghost use Rattle.aggregate.specs.Aggregate.{rootOf, isClassCount, valid, used, cell, cellBounded, bounded, nothing, cellGathered, gathered};
+ghost use Rattle.aggregate.specs.Aggregate.{joined, joinable, clipped, missingWord, fromWords};
 
-// What a net is opened with: the number of its stations.
+// What a net is opened with: the number of its stations, and of the classes that are counted.
 #[repr(C)]
 pub struct Config {
     pub k: u8,
+    pub classes: u8,
 }
 
-// What a station counted; the largest count stands for no reading.
+// What a station counted, class by class; the largest count stands for no reading.
 pub struct Reading {
-    pub count: u32,
+    pub counts: [u32; 8],
 }
 
-// What a station has gathered, of itself and of the stations that answered it: their counts, and how many had no reading.
-#[repr(C)]
-pub struct Aggregate {
+// What is gathered of one class: counts, and how many had no reading.
+pub struct Cell {
     pub sum: u64,
     pub missing: u8,
 }
 
+// What a station has gathered, of itself and of the stations that answered it.
+#[repr(C)]
+pub struct Aggregate {
+    pub sums: [u64; 8],
+    pub missing: [u8; 8],
+}
+
+// Whether both of two aggregates were bounded, and their join.
+pub struct Joined {
+    pub bounded: bool,
+    pub held: Aggregate,
+}
+
 // The station that starts the wave and reports.
 const ROOT: u8 = 0;
+
+const MOST_CLASSES: usize = 8;
 
 // The count of a head without a reading.
 const NO_READING: u32 = 4294967295;
@@ -40,87 +58,189 @@ pub fn root(t: Config) -> u8
     ROOT
 }
 
+// Whether there may be so many classes.
+pub fn is_class_count(c: u64) -> bool
+    ensures { λ r. ⌜ r ≡ isClassCount c ⌝ }
+{
+    (0 < c) & (c <= MOST_CLASSES as u64)
+}
+
 // Whether a net may be opened so.
 pub fn is_valid(t: Config) -> bool
     ensures { λ r. ⌜ r ≡ valid t ⌝ }
 {
-    bitset::is_station_count(t.k as u64)
+    bitset::is_station_count(t.k as u64) & is_class_count(t.classes as u64)
 }
 
-// The sum, as a number.
-pub fn sum_of(a: Aggregate) -> u64
-    ensures { λ r. ⌜ r ≡ sumOf a ⌝ }
+// How many classes are in use: loops over them end there.
+pub fn count_used(t: Config) -> usize
+    ensures { λ r. ⌜ r ≡ used t ⌝ }
 {
-    a.sum
+    let c = t.classes as usize;
+    if c < MOST_CLASSES { c } else { MOST_CLASSES }
 }
 
-// The number of missing readings.
-pub fn missing_of(a: Aggregate) -> u8
-    ensures { λ r. ⌜ r ≡ missingOf a ⌝ }
+// One class, counted from 0; past the eighth, nothing.
+pub fn class_of(a: Aggregate, i: usize) -> Cell
+    ensures { λ r. ⌜ r ≡ cell a i ⌝ }
 {
-    a.missing
+    if i < MOST_CLASSES {
+        return Cell {
+            sum: a.sums[i],
+            missing: a.missing[i],
+        };
+    }
+    Cell { sum: 0, missing: 0 }
+}
+
+fn is_cell_bounded(x: Cell) -> bool
+    ensures { λ r. ⌜ r ≡ cellBounded x ⌝ }
+{
+    (x.sum < SUM_LIMIT) & (x.missing <= MOST_MISSING)
 }
 
 // Whether a is one that a well-formed station may hold.
 pub fn is_bounded(t: Config, a: Aggregate) -> bool
     ensures { λ r. ⌜ r ≡ bounded t a ⌝ }
 {
-    (a.sum < SUM_LIMIT) & (a.missing <= MOST_MISSING)
+    let c = count_used(t);
+    let mut i: usize = 0;
+    while i < c {
+        let x = Cell {
+            sum: a.sums[i],
+            missing: a.missing[i],
+        };
+        if !is_cell_bounded(x) {
+            return false;
+        }
+        i += 1;
+    }
+    true
 }
 
 // Nothing gathered.
 pub fn empty() -> Aggregate
     ensures { λ a. ⌜ a ≡ nothing ⌝ }
 {
-    Aggregate { sum: 0, missing: 0 }
+    Aggregate {
+        sums: [0u64; 8],
+        missing: [0u8; 8],
+    }
+}
+
+// What one count gives.
+fn gather_cell(count: u32) -> Cell
+    ensures { λ r. ⌜ r ≡ cellGathered count ⌝ }
+{
+    if count == NO_READING {
+        return Cell { sum: 0, missing: 1 };
+    }
+    Cell {
+        sum: count as u64,
+        missing: 0,
+    }
 }
 
 // What a station's own reading gives.
 pub fn gather(t: Config, r: Reading) -> Aggregate
     ensures { λ a. ⌜ a ≡ gathered t r ⌝ }
 {
-    if r.count == NO_READING {
-        return Aggregate { sum: 0, missing: 1 };
+    let c = count_used(t);
+    let mut sums = [0u64; 8];
+    let mut missing = [0u8; 8];
+    let mut i: usize = 0;
+    while i < c {
+        let x = gather_cell(r.counts[i]);
+        sums[i] = x.sum;
+        missing[i] = x.missing;
+        i += 1;
     }
-    Aggregate {
-        sum: r.count as u64,
-        missing: 0,
-    }
+    Aggregate { sums, missing }
 }
 
-// Whether a and b are both bounded, so that their sum does not wrap.
-pub fn is_joinable(t: Config, a: Aggregate, b: Aggregate) -> bool
-    ensures { λ r. ⌜ r ≡ joinable t a b ⌝ }
+// Both together, in the classes in use, where each is bounded; else a as it was.
+pub fn join(t: Config, a: Aggregate, b: Aggregate) -> Joined
+    ensures bounded { λ r. ⌜ r .bounded ≡ joinable t a b ⌝ }
+    ensures held { λ r. ⌜ r .held ≡ cond (joinable t a b) (joined t a b) a ⌝ }
 {
-    is_bounded(t, a) & is_bounded(t, b)
+    let classes = count_used(t);
+    let mut sums = a.sums;
+    let mut missing = a.missing;
+    let mut class: usize = 0;
+    while class < classes {
+        let x = Cell {
+            sum: a.sums[class],
+            missing: a.missing[class],
+        };
+        let y = Cell {
+            sum: b.sums[class],
+            missing: b.missing[class],
+        };
+        if !(is_cell_bounded(x) & is_cell_bounded(y)) {
+            return Joined {
+                bounded: false,
+                held: a,
+            };
+        }
+        sums[class] = x.sum + y.sum;
+        missing[class] = x.missing + y.missing;
+        class += 1;
+    }
+    Joined {
+        bounded: true,
+        held: Aggregate { sums, missing },
+    }
 }
 
-// Both together; a as it was where one of them is not bounded.
-pub fn join(t: Config, a: Aggregate, b: Aggregate) -> Aggregate
-    ensures { λ r. ⌜ r ≡ cond (joinable t a b) (joined t a b) a ⌝ }
+// What a station gives of a: zero in the places past the classes in use.
+pub fn clip(t: Config, a: Aggregate) -> Aggregate
+    ensures { λ r. ⌜ r ≡ clipped t a ⌝ }
 {
-    if !is_joinable(t, a, b) {
-        return a;
+    let c = count_used(t);
+    let mut sums = [0u64; 8];
+    let mut missing = [0u8; 8];
+    let mut i: usize = 0;
+    while i < c {
+        sums[i] = a.sums[i];
+        missing[i] = a.missing[i];
+        i += 1;
     }
-    Aggregate {
-        sum: a.sum + b.sum,
-        missing: a.missing + b.missing,
-    }
+    Aggregate { sums, missing }
 }
 
-// What two words hold: the sum, and in the lowest byte of the other the missing number.
-pub fn from_words(sum: u64, missing: u64) -> Aggregate
-    ensures { λ a. ⌜ a ≡ fromWords sum missing ⌝ }
+fn wide(b: u8) -> u64
+    ensures { λ r. ⌜ (r ≡ b) × (r < 256) ⌝ }
 {
-    Aggregate {
-        sum: sum,
-        missing: (missing % 256) as u8,
-    }
+    b as u64
 }
 
-// The word of the missing number.
+// The missing numbers in one word, a byte each, class 0 lowest.
 pub fn missing_word(a: Aggregate) -> u64
     ensures { λ r. ⌜ r ≡ missingWord a ⌝ }
 {
-    a.missing as u64
+    let mut word: u64 = 0;
+    let mut i: usize = MOST_CLASSES;
+    while 0 < i {
+        i -= 1;
+        word = wide(a.missing[i]) + 256 * word;
+    }
+    word
+}
+
+// What the sums of the classes in use and a word of missing numbers hold.
+pub fn from_words(t: Config, words: [u64; 8], word: u64) -> Aggregate
+    ensures { λ a. ⌜ a ≡ fromWords t (λ (i : ℕ). getD words i 0) word ⌝ }
+{
+    let c = count_used(t);
+    let mut sums = [0u64; 8];
+    let mut missing = [0u8; 8];
+    let mut rest = word;
+    let mut i: usize = 0;
+    while i < c {
+        sums[i] = words[i];
+        missing[i] = (rest % 256) as u8;
+        rest = rest / 256;
+        i += 1;
+    }
+    Aggregate { sums, missing }
 }

@@ -29,7 +29,11 @@ use Rattle.mailbox.specs.Net.{netOf}
 use Rattle.mailbox.proofs.Line as Line
 use Rattle.mailbox.proofs.Line.Laws as Line′
 use Rattle.capi.specs.Answers.{packed, Called, called}
-use Rattle.capi.specs.Process.{eventCall}
+use Rattle.capi.specs.declared.process.Given.{Given}
+use Rattle.capi.specs.Process.{eventCall, givingCall}
+use Rattle.capi.specs.internal.Values.{replyGiven}
+use Rattle.capi.proofs.process.Given as Gives
+use Rattle.capi.proofs.process.Given.Laws as Gives′
 use Rattle.capi.proofs.steps.Run as Run
 use Rattle.capi.proofs.steps.Run.Laws as Run′
 use Rattle.capi.proofs.map.Answered as OnMap
@@ -49,6 +53,9 @@ number = number-answer w64
 abbrev run : Answer
 run = struct-answer (record { type = Run.the-type; laws = Run′.the-laws; plain = Run′.the-plain })
 
+abbrev giving : Answer
+giving = struct-answer (record { type = Gives.the-type; laws = Gives′.the-laws; plain = Gives′.the-plain })
+
 -- a station's event with these arguments, passed on to the station's own lent function, and its reply put into a number
 abbrev pub on-process : (Ns : List (Argument 0)) → ((κs : Lfts 0) → Denots (typesAt (values Ns) κs) → Process → EventOutcome) → Passing 0
 on-process Ns rule = record {
@@ -60,6 +67,19 @@ on-process Ns rule = record {
   answers = λ r n. n ≡ packed (numberAndValues (r .answer) .0 ∷ numberAndValues (r .answer) .1);
   promise = λ κs a e p n q. called n q ≡ eventCall (rule κs a p);
   together = λ κs a e p r q n replied answered. ap (λ (x : ℕ). called x q) answered ∙ ap eventCall replied;
+}
+
+-- one that gives, its reply put into a number and what is given
+abbrev pub on-giving : (Process → EventOutcome) → Passing 0
+on-giving rule = record {
+  lent = process;
+  arguments = [];
+  reply = reply;
+  answer = giving;
+  replies = λ κs a e p r q. eventOutcomeOf r q ≡ rule p;
+  answers = λ r g. g ≡ replyGiven r;
+  promise = λ κs a e p g q. called g q ≡ givingCall (rule p);
+  together = λ κs a e p r q g replied answered. ap (λ (x : Given). called x q) answered ∙ ap givingCall replied;
 }
 
 -- a function with these arguments that lends S, over one that returns E, whose call comes to `rule`; `left` is what is left in what was lent.
@@ -126,7 +146,7 @@ module _ {m : ℕ} (Ns : List (Argument m)) where
 
 -- the words of the mailboxes, lent beside the stations: the net left is made of both
 abbrev mailboxes : {m : ℕ} → Beside (suc m)
-mailboxes = words tt w64 8320
+mailboxes = words tt w64 36992
 
 module _ {m : ℕ} (Ns : List (Argument (suc m))) where
   abbrev MailRule : Type 0 → Type 0

@@ -1,4 +1,3 @@
 pub mod Lent
-pub mod Given
 pub mod Calls
 pub mod Maps

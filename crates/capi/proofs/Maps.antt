@@ -1,23 +1,25 @@
--- The values of a writing's answer fit 32 bits: a station is at most 64, and a stored map at most 784 bytes long. Assumes nothing.
+-- The values of a writing's answer fit 32 bits: a station is at most 64, and a stored map at most 2,576 bytes long. Assumes nothing.
 use mathlib.Core.Path.{_≡_, refl}
 use mathlib.Core.Bool.{Bool, true, false}
 use mathlib.Core.List.{List}
 use Prim.Native.Nat.{ℕ, _≤_, _<_, zero-le}
+use native.Mathlib.Nat.{mul-le-mul-right}
 use native.Mathlib.Omega.{arith}
 use lib.Dec.{leb}
 use borrow.Author.Tests.{leb-false}
-use Rattle.aggregate.specs.Aggregate.{rootOf}
+use Rattle.aggregate.specs.Aggregate.{rootOf, isClassCount}
+use Rattle.aggregate.proofs.Laws.{class-count}
 use Rattle.topology.specs.Answer.{isAccepted}
 use Rattle.finite.specs.Tests.{unless}
 use Rattle.topology.specs.Acceptance.{faultNumbers, lowest, overAll, verdictOf}
 use Rattle.bitset.specs.Set.{isStationCount}
 use Rattle.topology.specs.declared.Fault.{Fault}
-use Rattle.topology.specs.declared.Fault.the-variants.{Stations, Beyond, Itself, OneWay, Apart}
+use Rattle.topology.specs.declared.Fault.the-variants.{Classes, Stations, Beyond, Itself, OneWay, Apart}
 use Rattle.linemap.specs.declared.Map.{Map}
 use Rattle.linemap.specs.Writing.{writing}
 use Rattle.linemap.specs.Maps.{configOf, acceptance}
-use Rattle.linemap.specs.Stored.{storedLength}
-use Rattle.linemap.proofs.Accepted.{map-web}
+use Rattle.linemap.specs.Stored.{rowLength, lengthOf}
+use Rattle.linemap.proofs.Accepted.{map-classes, map-web}
 use Rattle.linemap.proofs.Rules.{few-stations}
 use Rattle.capi.specs.internal.Values.{valueOf}
 
@@ -41,12 +43,22 @@ verdict-small root k sets =
     (over-all-small 64 k _ OneWay _ (λ i. refl) small
     (over-all-small 64 k _ Apart _ (λ i. refl) small zero-le))))
 
+acceptance-small : (m : Map) → valueOf (acceptance m) ≤ 64
+acceptance-small m =
+    unless-small 64 (isClassCount (m .classes)) (faultNumbers Classes) _ (λ refused. zero-le)
+    (λ few. verdict-small (rootOf (configOf m)) (m .k) (m .neighbours))
+
+-- the longest of all: 64 rows of eight counts
+length-most : (m : Map) → isAccepted (acceptance m) ≡ true → lengthOf m ≤ 2576
+length-most m accepted =
+    let short : rowLength (m .classes) ≤ 40 = omega (arith, class-count (m .classes) (map-classes m accepted)) in
+    omega (arith, mul-le-mul-right (m .k) short, map-web m accepted .few-stations)
+
 pub writing-small : (m : Map) (n : ℕ) → valueOf (writing m n) < 4294967296
 unfolding writing
 writing-small m n =
-    let small : valueOf (writing m n) ≤ 784 =
-    unless-small 784 (isAccepted (acceptance m)) (acceptance m) _
-    (λ refused. omega (arith, verdict-small (rootOf (configOf m)) (m .k) (m .neighbours)))
-    (λ accepted. let need : storedLength (m .k) ≤ 784 = omega (arith, map-web m accepted .few-stations) in
-    unless-small 784 (leb (storedLength (m .k)) n) _ _ (λ short. need) (λ fits. need)) in
+    let small : valueOf (writing m n) ≤ 2576 =
+    unless-small 2576 (isAccepted (acceptance m)) (acceptance m) _ (λ refused. omega (arith, acceptance-small m))
+    (λ accepted. let need = length-most m accepted in
+    unless-small 2576 (leb (lengthOf m) n) _ _ (λ short. need) (λ fits. need)) in
     omega arith

@@ -40,7 +40,7 @@ fn from_stepped(stepped: Stepped) -> Answered
     }
 }
 
-fn fresh(before: Line, boxes: &mut [u64; 8320], map: Map) -> Answered
+fn fresh(before: Line, boxes: &mut [u64; 36992], map: Map) -> Answered
     ensures { λ r. ⌜ called (r .answer) (netOf (r .line) (now (boxes .exit))) ≡ freshCall (mailboxOpening map (now (boxes .entry))) (netOf before (now (boxes .entry))) ⌝ }
 {
     let opened = mailbox::fresh(map, boxes);
@@ -58,7 +58,7 @@ fn fresh(before: Line, boxes: &mut [u64; 8320], map: Map) -> Answered
     }
 }
 
-fn step(line: Line, boxes: &mut [u64; 8320], kind: u8, sender: u8, receiver: u8) -> Answered
+fn step(line: Line, boxes: &mut [u64; 36992], kind: u8, sender: u8, receiver: u8) -> Answered
     ensures { λ r. ⌜ called (r .answer) (netOf (r .line) (now (boxes .exit))) ≡ stepCall (stepOn rules (netOf line (now (boxes .entry))) (Listing.step kind sender receiver)) ⌝ }
 {
     let step = Step {
@@ -70,14 +70,14 @@ fn step(line: Line, boxes: &mut [u64; 8320], kind: u8, sender: u8, receiver: u8)
     from_stepped(stepped)
 }
 
-fn draw(line: Line, boxes: &mut [u64; 8320], d: u16) -> Answered
+fn draw(line: Line, boxes: &mut [u64; 36992], d: u16) -> Answered
     ensures { λ r. ⌜ called (r .answer) (netOf (r .line) (now (boxes .exit))) ≡ stepCall (drawOn rules (netOf line (now (boxes .entry))) d) ⌝ }
 {
     let stepped = mailbox::draw(line, boxes, d);
     from_stepped(stepped)
 }
 
-fn run(line: Line, boxes: &mut [u64; 8320], draws: &[u16]) -> RunAnswered
+fn run(line: Line, boxes: &mut [u64; 36992], draws: &[u16]) -> RunAnswered
     ensures { λ r. ⌜ called (r .answer) (netOf (r .line) (now (boxes .exit))) ≡ runCall (runOn rules (netOf line (now (boxes .entry))) (now (draws .entry))) ⌝ }
 {
     let ran = mailbox::run(line, boxes, draws);
@@ -91,7 +91,7 @@ fn run(line: Line, boxes: &mut [u64; 8320], draws: &[u16]) -> RunAnswered
 
 // The fresh net of an accepted map.
 #[no_mangle]
-pub extern "C" fn tally_mailbox_fresh(line: &mut Line, boxes: &mut [u64; 8320], map: Map) -> u64
+pub extern "C" fn tally_mailbox_fresh(line: &mut Line, boxes: &mut [u64; 36992], map: Map) -> u64
     ensures { λ r. ⌜ called r (netOf (now (line .exit)) (now (boxes .exit))) ≡ freshCall (mailboxOpening map (now (boxes .entry))) (netOf (now (line .entry)) (now (boxes .entry))) ⌝ }
 {
     let before = *line;
@@ -104,7 +104,7 @@ pub extern "C" fn tally_mailbox_fresh(line: &mut Line, boxes: &mut [u64; 8320], 
 #[no_mangle]
 pub extern "C" fn tally_mailbox_step(
     line: &mut Line,
-    boxes: &mut [u64; 8320],
+    boxes: &mut [u64; 36992],
     kind: u8,
     sender: u8,
     receiver: u8,
@@ -119,7 +119,7 @@ pub extern "C" fn tally_mailbox_step(
 
 // The step that a draw picks.
 #[no_mangle]
-pub extern "C" fn tally_mailbox_draw(line: &mut Line, boxes: &mut [u64; 8320], d: u16) -> u64
+pub extern "C" fn tally_mailbox_draw(line: &mut Line, boxes: &mut [u64; 36992], d: u16) -> u64
     ensures { λ r. ⌜ called r (netOf (now (line .exit)) (now (boxes .exit))) ≡ stepCall (drawOn rules (netOf (now (line .entry)) (now (boxes .entry))) d) ⌝ }
 {
     let before = *line;
@@ -130,7 +130,7 @@ pub extern "C" fn tally_mailbox_draw(line: &mut Line, boxes: &mut [u64; 8320], d
 
 // The steps that a list of draws picks.
 #[no_mangle]
-pub extern "C" fn tally_mailbox_run(line: &mut Line, boxes: &mut [u64; 8320], draws: &[u16]) -> Run
+pub extern "C" fn tally_mailbox_run(line: &mut Line, boxes: &mut [u64; 36992], draws: &[u16]) -> Run
     ensures { λ r. ⌜ called r (netOf (now (line .exit)) (now (boxes .exit))) ≡ runCall (runOn rules (netOf (now (line .entry)) (now (boxes .entry))) (now (draws .entry))) ⌝ }
 {
     let before = *line;

@@ -35,6 +35,7 @@ pub(crate) fn fault(why: Fault) -> u64
     ensures { λ r. ⌜ r ≡ packed (faultNumbers why) ⌝ }
 {
     match why {
+        Fault::Classes => 2,
         Fault::Stations => 3,
         Fault::Beyond(i) => with_value(7, i as u32),
         Fault::Itself(i) => with_value(8, i as u32),
@@ -66,7 +67,6 @@ fn read_fault(why: ReadFault) -> u64
 {
     match why {
         ReadFault::Short => 1,
-        ReadFault::RowLength => 2,
         ReadFault::Distance => 4,
         ReadFault::Rows => 5,
         ReadFault::CheckWord => 6,

@@ -1,4 +1,5 @@
-// One station (document 01), lent to each event, which alters it there: `station`'s lent events, and the number of their replies.
+// One station (document 01), lent to each event, which alters it there: `station`'s lent events, the number of their replies, and what an answer
+// or a report gives.
 use aggregate::Aggregate;
 use station::Answer;
 use station::Process;
@@ -7,7 +8,15 @@ ghost use mathlib.Core.Path.{_≡_};
 ghost use mathlib.Core.List.{_∷_};
 ghost use Rattle.station.specs.Process as Rules;
 ghost use Rattle.capi.specs.Answers.{packed, called};
-ghost use Rattle.capi.specs.Process.{eventCall};
+ghost use Rattle.capi.specs.Process.{eventCall, givingCall};
+ghost use Rattle.capi.specs.internal.Values.{replyGiven};
+
+// What an answer or a report answers, as one number, and what it gives: nothing where it is refused.
+#[repr(C)]
+pub struct Given {
+    pub answer: u64,
+    pub held: Aggregate,
+}
 
 // The number of a reply's answer, and the parent where one is given.
 fn number(reply: Reply) -> u64
@@ -18,6 +27,17 @@ fn number(reply: Reply) -> u64
         Answer::Done => 0,
         Answer::Gives(parent) => 256 * (parent as u64),
         Answer::Refused(refusal) => refusal::number(refusal) as u64,
+    }
+}
+
+// The number of a reply, and what is given with it.
+fn give(reply: Reply) -> Given
+    ensures { λ r. ⌜ r ≡ replyGiven reply ⌝ }
+{
+    let held = reply.given;
+    Given {
+        answer: number(reply),
+        held: held,
     }
 }
 
@@ -46,17 +66,17 @@ pub extern "C" fn tally_process_take_answer(p: &mut Process, v: Aggregate) -> u6
 }
 
 #[no_mangle]
-pub extern "C" fn tally_process_send_answer(p: &mut Process) -> u64
-    ensures { λ r. ⌜ called r (now (p .exit)) ≡ eventCall (Rules.sendAnswer (now (p .entry))) ⌝ }
+pub extern "C" fn tally_process_send_answer(p: &mut Process) -> Given
+    ensures { λ r. ⌜ called r (now (p .exit)) ≡ givingCall (Rules.sendAnswer (now (p .entry))) ⌝ }
 {
     let reply = station::send_answer_in_place(p);
-    number(reply)
+    give(reply)
 }
 
 #[no_mangle]
-pub extern "C" fn tally_process_report(p: &mut Process) -> u64
-    ensures { λ r. ⌜ called r (now (p .exit)) ≡ eventCall (Rules.report (now (p .entry))) ⌝ }
+pub extern "C" fn tally_process_report(p: &mut Process) -> Given
+    ensures { λ r. ⌜ called r (now (p .exit)) ≡ givingCall (Rules.report (now (p .entry))) ⌝ }
 {
     let reply = station::report_in_place(p);
-    number(reply)
+    give(reply)
 }

@@ -4,8 +4,9 @@ use mathlib.Core.Path.{_≡_}
 use mathlib.Core.Bool.{true, false}
 use mathlib.Core.List.{List}
 use mathlib.Core.Logic.{_↔_}
-use Prim.Native.Nat.{ℕ, _+_, _-_, _*_, _≤_}
+use Prim.Native.Nat.{ℕ, _+_, _-_, _*_, _≤_, _<_}
 use lib.ListN.{length, getD}
+use Rattle.aggregate.specs.Aggregate.{cell}
 use Rattle.topology.specs.Answer.{accepted}
 use Rattle.topology.specs.Acceptance.{linked}
 use Rattle.linemap.specs.declared.Map.{Map}
@@ -32,8 +33,8 @@ pub record Holds (K : Kind) (m : Map) (calls : List Call) : Type 0 where
   -- "Then the report was the last of them,"
   pub report-last : reports K m calls ≡ 1 → isReport K (getD (made K m calls) (length (made K m calls) - 1) (step 0 0 0)) ≡ true
   -- "the number reported is the sum of all the map's counts,": "the sum over heads with a reading, together with how many had none, in every
-  -- order of steps" (document 02, request 1)
-  pub number-reported : reports K m calls ≡ 1 → deskHeld K m (left K m calls) ≡ totals m
+  -- order of steps" (document 02, request 1), "so that each class reports its own total" (request 2)
+  pub number-reported : reports K m calls ≡ 1 → (j : ℕ) → j < m .classes → cell (deskHeld K m (left K m calls)) j ≡ totals m j
   -- "and each link has carried exactly one message each way."
   pub each-way : reports K m calls ≡ 1 → (i j : ℕ) → linked (m .k) (m .neighbours) i j ≡ true
       → (messages K m calls i j ≡ 1) × (messages K m calls j i ≡ 1)

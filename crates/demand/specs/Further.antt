@@ -72,9 +72,11 @@ pub record OfKind (K : Kind) : Type 0 where
   pub final : OnEveryMap (λ m calls. reports K m calls ≡ 1 → Final (K .rules) (left K m calls))
   pub fresh-run : OnEveryMap (FreshRun K)
 
--- "Before the report the sums of stations not finished add up to the map's total" (Stations that meet)
+-- "Before the report the sums of stations not finished add up to the map's total" (Stations that meet), class by class
 abbrev pub Conserved : Type 0
-Conserved = OnEveryMap (λ m calls. reports meeting m calls ≡ 0 → unfinished (m .k) (meeting .station (left meeting m calls)) ≡ totals m)
+Conserved =
+    OnEveryMap (λ m calls.
+    reports meeting m calls ≡ 0 → (j : ℕ) → j < m .classes → unfinished (m .k) (meeting .station (left meeting m calls)) j ≡ totals m j)
 
 -- a map that was read fits its fields and is accepted, so all of this holds of it
 abbrev pub Read : Type 0

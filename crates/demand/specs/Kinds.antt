@@ -51,7 +51,7 @@ module _ (K : Kind) where
   abbrev pub isMessage : ℕ → ℕ → Step → Bool
   isMessage i j s = not (isReport s) && eqb i (s .sender) && eqb j (s .receiver)
 
-  -- "the desk's sum", and its missing number
+  -- "the desk's sum", and its missing number, of each class
   abbrev pub deskHeld : Map → K .Net → Aggregate
   deskHeld m net = K .station net (rootOf (configOf m)) .held
 

@@ -6,7 +6,7 @@ use Prim.Native.Nat.{ℕ}
 use Prim.Native.String.{String}
 use lib.ListN.{length, replicate}
 use Rattle.linemap.specs.declared.Map.{Map}
-use Rattle.linemap.specs.Numbers.{bytes}
+use Rattle.finite.specs.Numbers.{bytes}
 use Rattle.linemap.specs.Stored.{bodyOf, storedOf}
 use Rattle.schedule.specs.declared.Step.{Step}
 use Rattle.schedule.specs.Listing.{step}
@@ -38,9 +38,10 @@ outcome (drawAfter m draws d) = drawOn rules (netAfter m draws) d .number ∷ []
 abbrev pub runs : List ℕ → Map → Given
 runs draws m = input (flatMap (bytes 2) draws ++ storedOf m)
 
--- a map of these counts and sets
+-- a map of one class, of these counts and sets: a station's count is the first of its eight places
 abbrev pub mapOf : List ℕ → List ℕ → Map
-mapOf counts sets = record { k = length counts; lot = 42; counts = counts; neighbours = sets }
+mapOf counts sets =
+    record { k = length counts; classes = 1; lot = 42; counts = flatMap (λ (n : ℕ). n ∷ replicate 7 0) counts; neighbours = sets }
 
 -- "counts 5, 7, 11; sets 6, 5, 3; lot 42"
 abbrev pub triangle : Map

@@ -1,13 +1,15 @@
 -- Laws of tests and tables below a bound: what each says of one number, and how a loop goes on from i to i + 1. Assumes nothing.
 use mathlib.Core.Path.{_≡_, refl, sym, ap, ap₂, _∙_}
-use mathlib.Core.Bool.{Bool, true, false, _&&_}
+use mathlib.Core.Bool.{Bool, true, false, _&&_, cond}
 use mathlib.Core.List.{List, [], _∷_, _++_}
-use Prim.Native.Nat.{ℕ, zero, suc, _+_, _<_}
+use Prim.Native.Nat.{ℕ, zero, suc, _+_, _<_, _≤_}
 use native.Mathlib.Nat.{not-suc-le-zero, le-of-eq}
 use native.Mathlib.Numerals.{add-one}
 use native.Mathlib.Omega.{arith}
-use lib.ListN.{length, getD, take, set, length-append, List·getD-append}
-use lib.Seq.{getD-append-add, take-suc-set, take-all}
+use lib.Dec.{ltb}
+use lib.ListN.{length, getD, take, set, length-append, length-set, List·getD-append}
+use lib.Seq.{getD-append-add, take-suc-set, take-all, getD-set-same, getD-set-other, ext-getD}
+use borrow.Author.Tests.{ltb-true, ltb-false}
 use Rattle.finite.specs.Below.{allBelow, each, tabulate}
 use Rattle.finite.proofs.Cases.{clash, by-bool, by-eq, and-both}
 
@@ -68,3 +70,59 @@ module _ {A : Type 0} (f : ℕ → A) where
 
     pub tabulate-all : (i n : ℕ) → i ≡ n → length l ≡ n → take i l ≡ tabulate i f → l ≡ tabulate n f
     tabulate-all i n s h e = sym (take-all n l (le-of-eq h)) ∙ rw s at e
+
+-- l with f 0, f 1, .., f (n − 1) in its first n places
+unfoldable pub stored : {A : Type 0} → List A → ℕ → (ℕ → A) → List A
+stored l zero f = l
+stored l (suc n) f = set (stored l n f) n (f n)
+
+module _ {A : Type 0} (f : ℕ → A) (l : List A) where
+  -- a loop that stores f i at i goes on
+  pub stored-more : (i : ℕ) (m : List A) (v : A) → m ≡ stored l i f → v ≡ f i → set m i v ≡ stored l (i + 1) f
+  unfolding stored
+  stored-more i m v e w = rw (add-one i, e, w)
+
+  length-stored : (n : ℕ) → length (stored l n f) ≡ length l
+  unfolding stored
+  length-stored zero = refl
+  length-stored (suc n) = length-set (stored l n f) n (f n) ∙ length-stored n
+
+  getD-stored-new : (n i : ℕ) (d : A) → i < length l → i < n → getD (stored l n f) i d ≡ f i
+  unfolding stored
+  getD-stored-new zero i d h m = absurd (not-suc-le-zero m)
+  getD-stored-new (suc n) i d h m =
+      by-eq i n
+      (λ q. rw q (getD-set-same (stored l n f) n (f n) d (omega (arith, length-stored n))))
+      (λ q. getD-set-other (stored l n f) n i (f n) d q ∙ getD-stored-new n i d h (omega arith))
+
+  getD-stored-old : (n i : ℕ) (d : A) → n ≤ i → getD (stored l n f) i d ≡ getD l i d
+  unfolding stored
+  getD-stored-old zero i d m = refl
+  getD-stored-old (suc n) i d m =
+      getD-set-other (stored l n f) n i (f n) d (λ q. omega arith) ∙ getD-stored-old n i d (omega arith)
+
+  -- so a list of n places, the first c of them stored, is a table
+  pub stored-table : (n c : ℕ) (d : A) → length l ≡ n → stored l c f ≡ tabulate n (λ i. cond (ltb i c) (f i) (getD l i d))
+  stored-table n c d h =
+      let g : ℕ → A = λ i. cond (ltb i c) (f i) (getD l i d) in
+      let same : length (stored l c f) ≡ length (tabulate n g) = length-stored c ∙ h ∙ sym (length-tabulate g n) in
+      ext-getD d (stored l c f) (tabulate n g) same
+      (λ i m.
+      let low : i < n = omega (arith, length-stored c) in
+      let at : i < length l = omega (arith, low) in
+      by-bool (ltb i c)
+      (λ t. getD-stored-new c i d at (ltb-true i c t) ∙ sym (getD-tabulate g n i d low ∙ rw t))
+      (λ t. getD-stored-old c i d (ltb-false i c t) ∙ sym (getD-tabulate g n i d low ∙ rw t)))
+
+-- tables of what is equal below their length are equal
+pub tabulate-ext : {A : Type 0} (n : ℕ) (f g : ℕ → A) → ((i : ℕ) → i < n → f i ≡ g i) → tabulate n f ≡ tabulate n g
+unfolding tabulate each
+tabulate-ext zero f g h = refl
+tabulate-ext {A} (suc n) f g h =
+    ap₂ (λ (l : List A) (a : A). l ++ (a ∷ [])) (tabulate-ext n f g (λ i l. h i (omega arith))) (h n (omega arith))
+
+-- tests that are equal below a bound
+pub all-below-ext : (n : ℕ) (p q : ℕ → Bool) → ((i : ℕ) → i < n → p i ≡ q i) → allBelow n p ≡ allBelow n q
+unfolding allBelow
+all-below-ext zero p q h = refl
+all-below-ext (suc n) p q h = ap₂ (λ (a b : Bool). a && b) (all-below-ext n p q (λ i l. h i (omega arith))) (h n (omega arith))

@@ -1,3 +1,4 @@
 pub mod Cases
 pub mod Sums
 pub mod Below
+pub mod Digits

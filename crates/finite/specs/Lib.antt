@@ -1,5 +1,6 @@
 pub mod Sum
 pub mod Below
+pub mod Numbers
 pub mod Tests
 pub mod Links
 pub mod internal

@@ -8,7 +8,7 @@ use lib.ListN.{getD}
 use lib.Dec.{eqb}
 use Rattle.finite.proofs.Cases.{clash}
 use Rattle.topology.specs.Answer.{isAccepted}
-use Rattle.topology.specs.declared.Fault.the-variants.{Stations, Beyond, Itself, OneWay, Apart}
+use Rattle.topology.specs.declared.Fault.the-variants.{Classes, Stations, Beyond, Itself, OneWay, Apart}
 use Rattle.topology.proofs.Answers.{faultFrom, fault-refuses}
 use Rattle.linemap.specs.Reading.{readFaultNumbers, readNumbers, ReadOutcome, readOutcomeOf}
 use Rattle.linemap.specs.Writing.{writeFaultNumbers, writeNumbers}
@@ -28,10 +28,9 @@ abbrev readFaultFrom : List ℕ → ReadFault
 readFaultFrom [] = read.Short
 readFaultFrom (n ∷ v) =
     cond (eqb n 1) read.Short
-    (cond (eqb n 2) read.RowLength
     (cond (eqb n 4) read.Distance
     (cond (eqb n 5) read.Rows
-    (cond (eqb n 6) read.CheckWord (read.Unfit (faultFrom (n ∷ v)))))))
+    (cond (eqb n 6) read.CheckWord (read.Unfit (faultFrom (n ∷ v))))))
 
 abbrev writeFaultFrom : List ℕ → WriteFault
 writeFaultFrom [] = write.Buffer 0
@@ -39,10 +38,10 @@ writeFaultFrom (n ∷ v) = cond (eqb n 15) (write.Buffer (getD v 0 0)) (write.Un
 
 read-again : (f : ReadFault) → readFaultFrom (readFaultNumbers f) ≡ f
 read-again read.Short = refl
-read-again read.RowLength = refl
 read-again read.Distance = refl
 read-again read.Rows = refl
 read-again read.CheckWord = refl
+read-again (read.Unfit Classes) = refl
 read-again (read.Unfit Stations) = refl
 read-again (read.Unfit (Beyond i)) = refl
 read-again (read.Unfit (Itself i)) = refl
@@ -51,6 +50,7 @@ read-again (read.Unfit (Apart i)) = refl
 
 write-again : (f : WriteFault) → writeFaultFrom (writeFaultNumbers f) ≡ f
 write-again (write.Buffer n) = refl
+write-again (write.Unfit Classes) = refl
 write-again (write.Unfit Stations) = refl
 write-again (write.Unfit (Beyond i)) = refl
 write-again (write.Unfit (Itself i)) = refl
@@ -60,7 +60,6 @@ write-again (write.Unfit (Apart i)) = refl
 -- no refusal is an acceptance
 pub read-fault-refuses : (f : ReadFault) → isAccepted (readFaultNumbers f) ≡ false
 read-fault-refuses read.Short = refl
-read-fault-refuses read.RowLength = refl
 read-fault-refuses read.Distance = refl
 read-fault-refuses read.Rows = refl
 read-fault-refuses read.CheckWord = refl

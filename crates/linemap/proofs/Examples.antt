@@ -1,4 +1,4 @@
--- Document 01's examples on reading and writing ("The program" and "Edges"), computed. Assumes nothing.
+-- Document 01's examples on reading and writing ("The program" and "Edges"), and one of two classes, computed. Assumes nothing.
 use mathlib.Core.Path.{_≡_, refl}
 use mathlib.Core.List.{List, [], _∷_, _++_}
 use Prim.Native.Nat.{ℕ}
@@ -8,11 +8,12 @@ use Rattle.finite.specs.Links.{links}
 use Rattle.bitset.specs.Set.{member, within}
 use Rattle.aggregate.specs.Aggregate.{rootOf}
 use Rattle.topology.specs.Acceptance.{anyBelow, near, firstFrom, verdictOf, linksOf}
-use Rattle.linemap.specs.Numbers.{number, bytes, sumWords}
+use Rattle.finite.specs.Numbers.{number, bytes}
+use Rattle.linemap.specs.Words.{sumWords}
 use Rattle.finite.specs.Below.{each, tabulate}
-use Rattle.linemap.specs.Maps.{linksIn}
-use Rattle.linemap.specs.Stored.{rowBytes, trailerBytes, bodyOf, checkWord, storedOf}
-use Rattle.linemap.specs.Reading.{readAs, column, emptyMap, reading}
+use Rattle.linemap.specs.Maps.{acceptance, linksIn, totals}
+use Rattle.linemap.specs.Stored.{countBytes, rowBytes, trailerBytes, bodyOf, checkWord, storedOf}
+use Rattle.linemap.specs.Reading.{readAs, column, grid, emptyMap, reading}
 use Rattle.linemap.specs.Writing.{writing, written}
 use Rattle.linemap.specs.declared.Map.{Map}
 
@@ -29,7 +30,13 @@ zeros = refl
 -- "counts 5, 7, 11; sets 6, 5, 3; lot 42; check word 4294180746"
 abbrev triangle : Map
 triangle =
-    record { k = 3; lot = 42; counts = 5 ∷ 7 ∷ 11 ∷ replicate 61 0; neighbours = 6 ∷ 5 ∷ 3 ∷ replicate 61 0 }
+    record {
+      k = 3;
+      classes = 1;
+      lot = 42;
+      counts = 5 ∷ replicate 7 0 ++ 7 ∷ replicate 7 0 ++ 11 ∷ replicate 495 0;
+      neighbours = 6 ∷ 5 ∷ 3 ∷ replicate 61 0;
+    }
 
 abbrev triangle-bytes : List ℕ
 triangle-bytes =
@@ -43,12 +50,12 @@ unfolding number
 check-word = refl
 
 triangle-stored : storedOf triangle ≡ triangle-bytes
-unfolding storedOf bodyOf trailerBytes rowBytes each bytes checkWord sumWords number
+unfolding storedOf bodyOf trailerBytes rowBytes countBytes each bytes checkWord sumWords number
 triangle-stored = refl
 
 -- after a byte that is not read
 triangle-reads : reading (9 ∷ triangle-bytes) ≡ readAs triangle
-unfolding reading column tabulate each sumWords number verdictOf firstFrom member within anyBelow near rootOf
+unfolding reading grid column tabulate each sumWords number verdictOf firstFrom member within anyBelow near rootOf
 triangle-reads = refl
 
 triangle-links : linksIn triangle ≡ 0 ∷ 3 ∷ []
@@ -61,10 +68,49 @@ unfolding writing written verdictOf firstFrom member within anyBelow near rootOf
 no-room = (refl, refl)
 
 room : (writing triangle 53 ≡ 0 ∷ 52 ∷ []) × (written triangle (replicate 53 9) ≡ triangle-bytes ++ 9 ∷ [])
-unfolding writing written verdictOf firstFrom member within anyBelow near rootOf storedOf bodyOf trailerBytes rowBytes each bytes checkWord sumWords number
+unfolding writing written verdictOf firstFrom member within anyBelow near rootOf storedOf bodyOf trailerBytes rowBytes countBytes each bytes checkWord sumWords number
 room = (refl, refl)
 
 -- a byte changed
 changed : reading (6 ∷ drop 1 triangle-bytes) ≡ record { numbers = 6 ∷ []; map = emptyMap }
 unfolding reading sumWords number
 changed = refl
+
+-- two classes (document 02, request 2): a row length of 16, and 12 words
+abbrev pair : Map
+pair =
+    record {
+      k = 2;
+      classes = 2;
+      lot = 7;
+      counts = 3 ∷ 4294967295 ∷ replicate 6 0 ++ 4 ∷ 9 ∷ replicate 502 0;
+      neighbours = 2 ∷ 1 ∷ replicate 62 0;
+    }
+
+abbrev pair-bytes : ℕ → List ℕ
+pair-bytes row =
+    3 ∷ 0 ∷ 0 ∷ 0 ∷ 255 ∷ 255 ∷ 255 ∷ 255 ∷ 2 ∷ 0 ∷ 0 ∷ 0 ∷ 0 ∷ 0 ∷ 0 ∷ 0
+    ∷ 4 ∷ 0 ∷ 0 ∷ 0 ∷ 9 ∷ 0 ∷ 0 ∷ 0 ∷ 1 ∷ 0 ∷ 0 ∷ 0 ∷ 0 ∷ 0 ∷ 0 ∷ 0
+    ∷ 2 ∷ 0 ∷ row ∷ 0 ∷ 32 ∷ 0 ∷ 0 ∷ 0 ∷ 7 ∷ 0 ∷ 0 ∷ 0 ∷ 197 ∷ 255 ∷ 239 ∷ 255 ∷ []
+
+pair-stored : storedOf pair ≡ pair-bytes 16
+unfolding storedOf bodyOf trailerBytes rowBytes countBytes each bytes checkWord sumWords number
+pair-stored = refl
+
+pair-reads : reading (pair-bytes 16) ≡ readAs pair
+unfolding reading grid column tabulate each sumWords number verdictOf firstFrom member within anyBelow near rootOf
+pair-reads = refl
+
+-- each class has its own total; the second misses a reading
+pair-totals : (totals pair 0 ≡ record { sum = 7; missing = 0 }) × (totals pair 1 ≡ record { sum = 9; missing = 1 })
+unfolding foldTo
+pair-totals = (refl, refl)
+
+-- a row length of 12 leaves another distance, and one of 18 or 44 is refused
+other-rows : (reading (pair-bytes 12) .numbers ≡ 4 ∷ []) × (reading (pair-bytes 18) .numbers ≡ 2 ∷ []) × (reading (pair-bytes 44) .numbers ≡ 2 ∷ [])
+unfolding reading number
+other-rows = (refl, refl, refl)
+
+-- "A map handed over with c not 1 to 8 gets 2, before 3"
+no-classes : (acceptance emptyMap ≡ 2 ∷ []) × (linksIn emptyMap ≡ 2 ∷ [])
+no-classes = (refl, refl)

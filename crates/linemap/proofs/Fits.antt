@@ -1,53 +1,74 @@
--- A map that was read from bytes has numbers that fit their fields: those in its rows were stored in as many bytes, and the places past k are
--- zero. Assumes nothing.
+-- A map that was read from bytes has numbers that fit their fields: those in its rows were stored in as many bytes, and the other
+-- places are zero. Assumes nothing.
 use mathlib.Core.Path.{_≡_, ap, _∙_, subst}
-use mathlib.Core.List.{List, _++_}
-use Prim.Native.Nat.{ℕ, _+_, _*_, _-_, _^_, _≤_, _<_}
+use mathlib.Core.List.{List, [], _∷_, _++_}
+use Prim.Native.Nat.{ℕ, zero, suc, _+_, _*_, _-_, _^_, _<_}
 use native.Mathlib.Omega.{arith}
 use lib.Dec.{ltb, lit<}
-use lib.ListN.{length, getD, replicate, getD-replicate, length-replicate, List·getD-eq-default}
+use lib.ListN.{length, getD, replicate, List·getD-append}
 use lib.Seq.{getD-append-add}
 use borrow.Author.Tests.{ltb-true, ltb-false}
 use Rattle.finite.proofs.Cases.{by-bool}
-use Rattle.finite.specs.Below.{tabulate}
-use Rattle.finite.proofs.Below.{length-tabulate}
+use Rattle.finite.specs.Below.{each, tabulate}
 use Rattle.linemap.specs.Stored.{rowLength}
-use Rattle.linemap.specs.Reading.{readAs, stationsIn, lotIn, startIn, column, mapAt, reading}
+use Rattle.linemap.specs.Reading.{readAs, classesIn, stationsIn, lotIn, startIn, column, grid, mapAt, reading}
 use Rattle.linemap.specs.RoundTrip.{Fits}
 use Rattle.linemap.specs.declared.Map.{Map}
-use Rattle.linemap.proofs.Digits.{number-small}
-use Rattle.linemap.proofs.Each.{column-at}
+use Rattle.finite.proofs.Digits.{number-small}
 use Rattle.linemap.proofs.Rules.{read-facts}
 
-zeros-at : (n i : ℕ) → _≡_ {A = ℕ} (getD (replicate n 0) i 0) 0
-zeros-at n i =
-    by-bool (ltb i n)
-    (λ e. getD-replicate n i 0 0 (ltb-true i n e))
-    (λ e. List·getD-eq-default (replicate n 0) 0 (omega (arith, length-replicate {A = ℕ} n 0, ltb-false i n e)))
+-- lists of numbers below a bound, zeros among them
+module _ (bound : ℕ) (some : 0 < bound) where
+  abbrev Small : List ℕ → Type 0
+  Small l = (i : ℕ) → getD l i 0 < bound
 
-column-past : (f : ℕ → ℕ) (k i : ℕ) → k ≤ i → getD (column f k) i 0 ≡ 0
-unfolding column
-column-past f k i h =
-    let p : List ℕ = tabulate k f in
-    let long : length p ≡ k = length-tabulate f k in
-    ap (λ (x : ℕ). getD (p ++ replicate (64 - k) 0) x 0) (let at : i ≡ length p + (i - k) = omega arith in at)
-    ∙ getD-append-add p (replicate (64 - k) 0) (i - k) 0
-    ∙ zeros-at (64 - k) (i - k)
+  none-small : Small []
+  none-small i = some
 
-column-small : (f : ℕ → ℕ) (k bound : ℕ) → 0 < bound → ((i : ℕ) → f i < bound) → (i : ℕ) → getD (column f k) i 0 < bound
-column-small f k bound h small i =
-    by-bool (ltb i k)
-    (λ e. rw (column-at f k i (ltb-true i k e)) (small i))
-    (λ e. rw (column-past f k i (ltb-false i k e)) h)
+  more-small : (x : ℕ) (l : List ℕ) → x < bound → Small l → Small (x ∷ l)
+  more-small x l h small zero = h
+  more-small x l h small (suc i) = small i
+
+  append-small : (l m : List ℕ) → Small l → Small m → Small (l ++ m)
+  append-small l m first second i =
+      by-bool (ltb i (length l))
+      (λ e. rw (List·getD-append l m 0 i (ltb-true i (length l) e)) (first i))
+      (λ e.
+      let at : i ≡ length l + (i - length l) = omega (arith, ltb-false i (length l) e) in
+      let found : getD (l ++ m) i 0 ≡ getD m (i - length l) 0 =
+      ap (λ (x : ℕ). getD (l ++ m) x 0) at ∙ getD-append-add l m (i - length l) 0 in
+      rw found (second (i - length l)))
+
+  zeros-small : (n : ℕ) → Small (replicate n 0)
+  zeros-small zero = none-small
+  zeros-small (suc n) = more-small 0 (replicate n 0) some (zeros-small n)
+
+  each-small : (f : ℕ → List ℕ) → ((i : ℕ) → Small (f i)) → (n : ℕ) → Small (each f n)
+  unfolding each
+  each-small f small zero = none-small
+  each-small f small (suc n) = append-small (each f n) (f n) (each-small f small n) (small n)
+
+  column-small : (size : ℕ) (f : ℕ → ℕ) (n : ℕ) → ((i : ℕ) → f i < bound) → Small (column size f n)
+  unfolding column tabulate
+  column-small size f n small =
+      append-small (each (λ i. f i ∷ []) n) (replicate (size - n) 0)
+      (each-small (λ i. f i ∷ []) (λ i. more-small (f i) [] (small i) none-small) n) (zeros-small (size - n))
+
+  grid-small : (f : ℕ → ℕ → ℕ) (c k : ℕ) → ((i j : ℕ) → f i j < bound) → Small (grid f c k)
+  unfolding grid
+  grid-small f c k small =
+      append-small (each (λ i. column 8 (f i) c) k) (replicate (8 * (64 - k)) 0)
+      (each-small (λ i. column 8 (f i) c) (λ i. column-small 8 (f i) c (small i)) k) (zeros-small (8 * (64 - k)))
 
 pub read-fits : (s : List ℕ) (m : Map) → ((i : ℕ) → getD s i 0 < 2 ^ 8) → reading s ≡ readAs m → Fits m
 read-fits s m byte e =
+    let c = classesIn s in
     let k = stationsIn s in
     let start = startIn s in
-    let fits : Fits (mapAt s k (lotIn s) start) =
+    let fits : Fits (mapAt s c k (lotIn s) start) =
     record {
       lot = number-small s byte 4 _;
-      counts = column-small _ k (2 ^ 32) (lit< tt) (λ i. number-small s byte 4 (start + rowLength * i));
-      neighbours = column-small _ k (2 ^ 64) (lit< tt) (λ i. number-small s byte 8 (start + rowLength * i + 4));
+      counts = grid-small (2 ^ 32) (lit< tt) _ c k (λ i j. number-small s byte 4 (start + rowLength c * i + 4 * j));
+      neighbours = column-small (2 ^ 64) (lit< tt) 64 _ k (λ i. number-small s byte 8 (start + rowLength c * i + 4 * c));
     } in
     subst Fits (read-facts s m e .is) fits

@@ -1,7 +1,7 @@
 pub mod Answers
 pub mod Each
 pub mod Put
-pub mod Digits
+pub mod Words
 pub mod StoredForm
 pub mod Rules
 pub mod Accepted

@@ -1,38 +1,54 @@
 -- Writing and reading undo each other: the claims of specs/RoundTrip. Assumes nothing.
 use mathlib.Core.Path.{_≡_, refl, ap, ap₂, _∙_}
 use mathlib.Core.List.{List, _++_}
-use Prim.Native.Nat.{ℕ, _-_}
+use Prim.Native.Nat.{ℕ, _-_, _<_}
 use lib.ListN.{getD}
-use Rattle.linemap.specs.Numbers.{bytes, sumWords}
+use Rattle.finite.specs.Numbers.{bytes}
+use Rattle.linemap.specs.Words.{sumWords}
 use Rattle.finite.specs.Below.{each}
-use Rattle.linemap.specs.Stored.{wordCount, rowBytes, trailerBytes, bodyOf, storedOf, checkWord}
+use Rattle.topology.specs.Answer.{accepted, isAccepted}
+use Rattle.linemap.specs.Maps.{countAt, acceptance}
+use Rattle.linemap.specs.Stored.{rowLength, wordCount, countBytes, rowBytes, trailerBytes, bodyOf, storedOf, checkWord}
 use Rattle.linemap.specs.RoundTrip.{Equal, clearedOf, RoundTrips}
 use Rattle.linemap.specs.declared.Map.{Map}
-use Rattle.linemap.proofs.Each.{each-same, column-at}
+use Rattle.linemap.proofs.Each.{each-same, column-at, grid-at}
+use Rattle.aggregate.proofs.Laws.{class-count}
+use Rattle.linemap.proofs.Accepted.{map-classes}
 use Rattle.linemap.proofs.WriteRead.{written-reads}
 use Rattle.linemap.proofs.ReadWrite.{read-writes}
 
-cleared-equal : (m : Map) → Equal (clearedOf m) m
-cleared-equal m =
+cleared-equal : (m : Map) → acceptance m ≡ accepted → Equal (clearedOf m) m
+cleared-equal m ok =
+    let few = class-count (m .classes) (map-classes m (ap isAccepted ok)) .1 in
     record {
       k = refl;
+      classes = refl;
       lot = refl;
-      counts = λ i h. column-at (λ j. getD (m .counts) j 0) (m .k) i h;
-      neighbours = λ i h. column-at (λ j. getD (m .neighbours) j 0) (m .k) i h;
+      counts = λ i j h l. grid-at (countAt m) (m .classes) few (m .k) i j h l;
+      neighbours = λ i h. column-at 64 (λ j. getD (m .neighbours) j 0) (m .k) i h;
     }
 
+equal-rows : (m n : Map) → Equal m n → (i : ℕ) → i < m .k
+    → rowBytes (m .classes) (m .counts) (m .neighbours) i ≡ rowBytes (n .classes) (n .counts) (n .neighbours) i
+unfolding rowBytes countBytes
+equal-rows m n e i h =
+    ap₂ (λ (counts : List ℕ) (set : ℕ). counts ++ bytes 8 set)
+    (each-same _ _ (m .classes) (λ j l. ap (bytes 4) (e .counts i j h l)) ∙ ap (each (λ j. bytes 4 (countAt n i j))) (e .classes))
+    (e .neighbours i h)
+
 equal-bodies : (m n : Map) → Equal m n → bodyOf m ≡ bodyOf n
-unfolding bodyOf rowBytes
+unfolding bodyOf
 equal-bodies m n e =
     ap₂ (λ (rows trailer : List ℕ). rows ++ trailer)
-    (each-same _ _ (m .k) (λ i h. ap₂ (λ (x y : ℕ). bytes 4 x ++ bytes 8 y) (e .counts i h) (e .neighbours i h))
-    ∙ ap (each (rowBytes (n .counts) (n .neighbours))) (e .k))
-    (ap₂ trailerBytes (e .k) (e .lot))
+    (each-same _ _ (m .k) (equal-rows m n e) ∙ ap (each (rowBytes (n .classes) (n .counts) (n .neighbours))) (e .k))
+    (ap₂ (λ (c k : ℕ). trailerBytes (rowLength c) k (m .lot)) (e .classes) (e .k)
+    ∙ ap (trailerBytes (rowLength (n .classes)) (n .k)) (e .lot))
 
 equal-written : (m n : Map) → Equal m n → storedOf m ≡ storedOf n
 unfolding storedOf
 equal-written m n e =
-    ap₂ (λ (body : List ℕ) (k : ℕ). body ++ bytes 4 (checkWord (sumWords body 0 (wordCount k - 1)))) (equal-bodies m n e) (e .k)
+    ap₂ (λ (body : List ℕ) (words : ℕ). body ++ bytes 4 (checkWord (sumWords body 0 (words - 1))))
+    (equal-bodies m n e) (ap₂ wordCount (e .classes) (e .k))
 
 pub round-trips : RoundTrips
 round-trips =

@@ -1,9 +1,11 @@
 -- Reading and writing rule by rule: what the reader's parts leave of a reading, what is left after 1 to 5, and what an accepted
 -- reading went by; the three ways that writing ends. Assumes nothing.
-use mathlib.Core.Path.{_≡_, refl, sym, ap, _∙_}
-use mathlib.Core.Bool.{Bool, true, false}
+use mathlib.Core.Path.{_≡_, refl, sym, ap, ap₂, _∙_}
+use mathlib.Core.Logic.{_⊎_, ⊎-elim}
+use mathlib.Core.Bool.{Bool, true, false, _&&_}
 use mathlib.Core.List.{List, _++_}
-use Prim.Native.Nat.{ℕ, _+_, _*_, _-_, _≤_, _<_}
+use Prim.Native.Nat.{ℕ, _+_, _*_, _-_, _%_, _≤_, _<_}
+use native.Mathlib.Nat.{mul-le-mul-left}
 use native.Mathlib.Omega.{arith}
 use lib.ListN.{length, drop}
 use lib.Dec.{leb, ltb, eqb}
@@ -13,18 +15,22 @@ use Rattle.topology.specs.Answer.{isAccepted}
 use Rattle.finite.specs.Tests.{unless}
 use Rattle.topology.specs.Acceptance.{faultNumbers}
 use Rattle.bitset.specs.Set.{isStationCount}
+use Rattle.aggregate.specs.Aggregate.{isClassCount}
+use Rattle.aggregate.proofs.Laws.{class-count}
 use Rattle.topology.specs.declared.Fault.{Fault}
-use Rattle.topology.specs.declared.Fault.the-variants.{Stations}
+use Rattle.topology.specs.declared.Fault.the-variants.{Classes, Stations}
 use Rattle.topology.proofs.Answers.{fault-refuses}
-use Rattle.linemap.specs.Numbers.{number, sumWords}
+use Rattle.finite.specs.Numbers.{number}
+use Rattle.linemap.specs.Words.{sumWords}
 use Rattle.linemap.specs.Maps.{acceptance}
-use Rattle.linemap.specs.Stored.{rowLength, trailerLength, storedLength, wordCount, storedOf}
-use Rattle.linemap.specs.Reading.{readAs, ReadOutcome, readRefused, stationsIn, rowLengthIn, distanceIn, lotIn, startIn, mapAt, judged, reading}
+use Rattle.linemap.specs.Stored.{rowLength, trailerLength, storedLength, lengthOf, wordCount, storedOf}
+use Rattle.linemap.specs.Reading.{readAs, ReadOutcome, readRefused, isRowLength, classesOf, mapAt, judged, reading}
+use Rattle.linemap.specs.Reading.{stationsIn, rowLengthIn, classesIn, distanceIn, lotIn, startIn}
 use Rattle.linemap.specs.Writing.{writeFaultNumbers, writeNumbers, writing, written}
 use Rattle.linemap.specs.internal.Stages.{trailerOf, trailerAnswer, rowOf, rowsOutcome, put}
 use Rattle.linemap.specs.declared.Map.{Map}
 use Rattle.linemap.specs.declared.ReadFault.{ReadFault}
-use Rattle.linemap.specs.declared.ReadFault.the-variants.{Short, RowLength, Distance, Rows, CheckWord, Unfit}
+use Rattle.linemap.specs.declared.ReadFault.the-variants.{Short, Distance, Rows, CheckWord, Unfit}
 use Rattle.linemap.specs.declared.WriteFault.the-variants.{Buffer}
 use Rattle.linemap.specs.declared.WriteAnswer.the-variants.{Written}
 use Rattle.linemap.specs.declared.ReadAnswer.{ReadAnswer}
@@ -42,42 +48,77 @@ some-station k count = ltb-true 0 k (and-both (ltb 0 k) (leb k 64) count .0)
 pub few-stations : (k : ℕ) → isStationCount k ≡ true → k ≤ 64
 few-stations k count = leb-true k 64 (and-both (ltb 0 k) (leb k 64) count .1)
 
-row-known : (b : Bool) (count set x y : ℕ) → unless b row.Outside (row.Row count set) ≡ row.Row x y → (b ≡ true) × (x ≡ count) × (y ≡ set)
-row-known true count set x y e = (refl, cc, cc)
-row-known false count set x y e = let never : _≡_ {A = ℕ} 0 1 = cc in absurd (omega arith)
+-- a row length that is let through is that of its class count, and each class count has one
+pub row-classes : (w : ℕ) → isRowLength w ≡ true → (rowLength (classesOf w) ≡ w) × (1 ≤ classesOf w) × (classesOf w ≤ 8) × (w ≤ 40)
+row-classes w ok =
+    let most = and-both (eqb (w % 4) 0 && leb 12 w) (leb w 40) ok in
+    let least = and-both (eqb (w % 4) 0) (leb 12 w) (most .0) in
+    omega (arith, eqb-true (w % 4) 0 (least .0), leb-true 12 w (least .1), leb-true w 40 (most .1))
 
-row-unknown : (b : Bool) (count set : ℕ) → unless b row.Outside (row.Row count set) ≡ row.Outside → b ≡ false
-row-unknown false count set e = refl
-row-unknown true count set e = let never : _≡_ {A = ℕ} 0 1 = cc in absurd (omega arith)
+pub classes-row : (c w : ℕ) → isClassCount c ≡ true → w ≡ rowLength c → (isRowLength w ≡ true) × (classesOf w ≡ c)
+classes-row c w count is =
+    let both = class-count c count in (
+      rw (eq-eqb (w % 4) 0 (omega arith), le-leb 12 w (omega arith), le-leb w 40 (omega arith)),
+      omega arith,
+    )
+
+-- row i of k rows of w bytes
+pub row-below : (w i k : ℕ) → i < k → w * i + w ≤ w * k
+row-below w i k h = omega (arith, mul-le-mul-left w h)
+
+row-known : (b : Bool) (at set x y : ℕ) → unless b row.Outside (row.Row at set) ≡ row.Row x y → (b ≡ true) × (x ≡ at) × (y ≡ set)
+row-known true at set x y e = (refl, cc, cc)
+row-known false at set x y e = let never : _≡_ {A = ℕ} 0 1 = cc in absurd (omega arith)
+
+row-unknown : (b : Bool) (at set : ℕ) → unless b row.Outside (row.Row at set) ≡ row.Outside → b ≡ false
+row-unknown false at set e = refl
+row-unknown true at set e = let never : _≡_ {A = ℕ} 0 1 = cc in absurd (omega arith)
 
 -- a row that was read starts within the bytes, at its place from the end; one that was not starts before them
-module _ (s : List ℕ) (back : ℕ) where
-  pub row-within : (count set : ℕ) → rowOf s back ≡ row.Row count set
-      → (back ≤ length s) × (count ≡ number s (length s - back) 4) × (set ≡ number s (length s - back + 4) 8)
+module _ (s : List ℕ) (w back : ℕ) where
+  row-within : (at set : ℕ) → rowOf s w back ≡ row.Row at set
+      → (back ≤ length s) × (at ≡ length s - back) × (set ≡ number s (length s - back + (w - 8)) 8)
   unfolding rowOf
-  row-within count set e =
-      let known = row-known (leb back (length s)) _ _ count set e in
+  row-within at set e =
+      let known = row-known (leb back (length s)) _ _ at set e in
       (leb-true back (length s) (known .0), known .1, known .2)
 
-  pub row-outside : rowOf s back ≡ row.Outside → length s < back
+  pub row-outside : rowOf s w back ≡ row.Outside → length s < back
   unfolding rowOf
   row-outside e = leb-false back (length s) (row-unknown (leb back (length s)) _ _ e)
 
+-- row i of k was read: all rows stand within the bytes, since the first of them starts farthest back, and it has its place among them
+pub row-read : (s : List ℕ) (c k i w need at set : ℕ) → i < k → w ≡ rowLength c → need ≡ storedLength c k
+    → (i ≡ 0) ⊎ (storedLength c k ≤ length s) → rowOf s w (need - w * i) ≡ row.Row at set
+    → let place = length s - storedLength c k + rowLength c * i in
+    (storedLength c k ≤ length s) × (at ≡ place) × (set ≡ number s (place + 4 * c) 8)
+row-read s c k i w need at set more width-is need-is before e =
+    let known = row-within s w (need - w * i) at set e in
+    let same : w * i ≡ rowLength c * i = ap (λ (x : ℕ). x * i) width-is in
+    let below = row-below (rowLength c) i k more in
+    let fits : storedLength c k ≤ length s =
+    ⊎-elim (λ first. let none : w * i ≡ w * 0 = ap (λ (n : ℕ). w * n) first in omega (arith, none, known .0)) (λ f. f) before in
+    let from-front : length s - (need - w * i) ≡ length s - storedLength c k + rowLength c * i = omega arith in
+    let wide : w - 8 ≡ 4 * c = omega arith in
+    (fits, known .1 ∙ from-front, known .2 ∙ ap₂ (λ (x y : ℕ). number s (x + y) 8) from-front wide)
+
 -- the rows start before the bytes; their words do not add to zero; the map is judged
-module _ (s : List ℕ) (k lot : ℕ) where
-  pub rows-outside : length s < storedLength k → rowsOutcome s k lot ≡ readRefused Rows
+module _ (s : List ℕ) (c k lot : ℕ) where
+  abbrev need : ℕ
+  need = storedLength c k
+
+  pub rows-outside : length s < need → rowsOutcome s c k lot ≡ readRefused Rows
   unfolding rowsOutcome
-  rows-outside far = rw (lt-leb (storedLength k) (length s) far)
+  rows-outside far = rw (lt-leb need (length s) far)
 
-  module _ (fits : storedLength k ≤ length s) where
-    pub words-off : (sumWords s (length s - storedLength k) (wordCount k) ≡ 0 → ⊥) → rowsOutcome s k lot ≡ readRefused CheckWord
+  module _ (fits : need ≤ length s) where
+    pub words-off : (sumWords s (length s - need) (wordCount c k) ≡ 0 → ⊥) → rowsOutcome s c k lot ≡ readRefused CheckWord
     unfolding rowsOutcome
-    words-off ne = rw (le-leb (storedLength k) (length s) fits, ne-eqb (sumWords s (length s - storedLength k) (wordCount k)) 0 ne)
+    words-off ne = rw (le-leb need (length s) fits, ne-eqb (sumWords s (length s - need) (wordCount c k)) 0 ne)
 
-    pub words-add : sumWords s (length s - storedLength k) (wordCount k) ≡ 0
-        → rowsOutcome s k lot ≡ judged (mapAt s k lot (length s - storedLength k))
+    pub words-add : sumWords s (length s - need) (wordCount c k) ≡ 0 → rowsOutcome s c k lot ≡ judged (mapAt s c k lot (length s - need))
     unfolding rowsOutcome
-    words-add zero = rw (le-leb (storedLength k) (length s) fits, eq-eqb (sumWords s (length s - storedLength k) (wordCount k)) 0 zero)
+    words-add zero = rw (le-leb need (length s) fits, eq-eqb (sumWords s (length s - need) (wordCount c k)) 0 zero)
 
 -- what an answer of 2 to 4 makes of the rest of a reading, and the reading of a trailer that was read
 abbrev pub answered : ReadAnswer → ReadOutcome → ReadOutcome
@@ -86,11 +127,11 @@ answered answer.Accepted rest = rest
 
 abbrev pub ruled : List ℕ → TrailerRead → ReadOutcome
 ruled s trailer.Short = readRefused Short
-ruled s (trailer.Fields k row distance lot) = answered (trailerAnswer k row distance) (rowsOutcome s k lot)
+ruled s (trailer.Fields k row distance lot) = answered (trailerAnswer k row distance) (rowsOutcome s (classesOf row) k lot)
 
 answered-unless : (row count back : Bool) (rest : ReadOutcome)
-    → unless row (readRefused RowLength) (unless count (readRefused (Unfit Stations)) (unless back (readRefused Distance) rest))
-    ≡ answered (unless row (answer.Refused RowLength)
+    → unless row (readRefused (Unfit Classes)) (unless count (readRefused (Unfit Stations)) (unless back (readRefused Distance) rest))
+    ≡ answered (unless row (answer.Refused (Unfit Classes))
     (unless count (answer.Refused (Unfit Stations)) (unless back (answer.Refused Distance) answer.Accepted))) rest
 answered-unless false count back rest = refl
 answered-unless true false back rest = refl
@@ -106,38 +147,41 @@ pub reading-ruled : (s : List ℕ) → reading s ≡ ruled s (trailerOf s)
 unfolding reading trailerOf trailerAnswer rowsOutcome
 reading-ruled s =
     ruled-unless (leb trailerLength (length s)) s (trailer.Fields (stationsIn s) (rowLengthIn s) (distanceIn s) (lotIn s)) _
-    (answered-unless (eqb (rowLengthIn s) rowLength) (isStationCount (stationsIn s)) (eqb (distanceIn s) (rowLength * stationsIn s)) _)
+    (answered-unless (isRowLength (rowLengthIn s)) (isStationCount (stationsIn s)) (eqb (distanceIn s) (rowLengthIn s * stationsIn s)) _)
 
--- an accepted trailer has a number of stations
-pub trailer-few : (k row distance : ℕ) → trailerAnswer k row distance ≡ answer.Accepted → (0 < k) × (k ≤ 64)
+-- an accepted trailer has a row length and a number of stations
+pub trailer-few : (k row distance : ℕ) → trailerAnswer k row distance ≡ answer.Accepted → (isRowLength row ≡ true) × (0 < k) × (k ≤ 64)
 unfolding trailerAnswer
 trailer-few k row distance ok =
-    let count = counted (eqb row rowLength) (isStationCount k) (eqb distance (rowLength * k)) ok in
-    (some-station k count, few-stations k count)
+    let both = counted (isRowLength row) (isStationCount k) (eqb distance (row * k)) ok in
+    (both .0, some-station k (both .1), few-stations k (both .1))
   where
     counted : (row count back : Bool)
-        → unless row (answer.Refused RowLength) (unless count (answer.Refused (Unfit Stations)) (unless back (answer.Refused Distance) answer.Accepted))
-        ≡ answer.Accepted
-        → count ≡ true
-    counted row true back e = refl
+        → unless row (answer.Refused (Unfit Classes))
+        (unless count (answer.Refused (Unfit Stations)) (unless back (answer.Refused Distance) answer.Accepted)) ≡ answer.Accepted
+        → (row ≡ true) × (count ≡ true)
+    counted true true back e = (refl, refl)
     counted true false back e = let never : _≡_ {A = ℕ} 0 1 = cc in absurd (omega arith)
-    counted false false back e = let never : _≡_ {A = ℕ} 0 1 = cc in absurd (omega arith)
+    counted false count back e = let never : _≡_ {A = ℕ} 0 1 = cc in absurd (omega arith)
 
 -- what is left of a reading that 1 to 5 let through
-pub reading-left : (s : List ℕ) (k lot start : ℕ) → stationsIn s ≡ k → lotIn s ≡ lot → length s ≡ start + storedLength k
-    → rowLengthIn s ≡ rowLength → isStationCount k ≡ true → distanceIn s ≡ rowLength * k
-    → reading s ≡ unless (eqb (sumWords s start (wordCount k)) 0) (readRefused CheckWord) (judged (mapAt s k lot start))
+pub reading-left : (s : List ℕ) (c k lot start : ℕ) → stationsIn s ≡ k → lotIn s ≡ lot → length s ≡ start + storedLength c k
+    → rowLengthIn s ≡ rowLength c → isClassCount c ≡ true → isStationCount k ≡ true → distanceIn s ≡ rowLength c * k
+    → reading s ≡ unless (eqb (sumWords s start (wordCount c k)) 0) (readRefused CheckWord) (judged (mapAt s c k lot start))
 unfolding reading
-reading-left s k lot start stations-are lot-is ends row count back =
-    let starts : length s - storedLength k ≡ start = omega arith in
+reading-left s c k lot start stations-are lot-is ends row classes count back =
+    let starts : length s - storedLength c k ≡ start = omega arith in
+    let found = classes-row c (rowLengthIn s) classes row in
+    let distance : distanceIn s ≡ rowLengthIn s * k = back ∙ ap (λ (w : ℕ). w * k) (sym row) in
     rw (
       le-leb trailerLength (length s) (omega arith),
-      row,
+      found .0,
       stations-are,
       lot-is,
       count,
-      eq-eqb (distanceIn s) (rowLength * k) back,
-      le-leb (storedLength k) (length s) (omega arith),
+      eq-eqb (distanceIn s) (rowLengthIn s * k) distance,
+      found .1,
+      le-leb (storedLength c k) (length s) (omega arith),
       starts,
     )
 
@@ -154,27 +198,31 @@ judged-is false n m f e = clash (ap (λ (o : ReadOutcome). isAccepted (o .number
 
 -- what an accepted reading went by
 pub record Read (s : List ℕ) (m : Map) : Type 0 where
-  pub row : rowLengthIn s ≡ rowLength
-  pub back : distanceIn s ≡ rowLength * stationsIn s
-  pub fits : storedLength (stationsIn s) ≤ length s
-  pub sum : sumWords s (startIn s) (wordCount (stationsIn s)) ≡ 0
+  pub row : rowLengthIn s ≡ rowLength (classesIn s)
+  pub few : classesIn s ≤ 8
+  pub back : distanceIn s ≡ rowLength (classesIn s) * stationsIn s
+  pub fits : storedLength (classesIn s) (stationsIn s) ≤ length s
+  pub sum : sumWords s (startIn s) (wordCount (classesIn s) (stationsIn s)) ≡ 0
   pub good : isAccepted (acceptance m) ≡ true
-  pub is : mapAt s (stationsIn s) (lotIn s) (startIn s) ≡ m
+  pub is : mapAt s (classesIn s) (stationsIn s) (lotIn s) (startIn s) ≡ m
 
 pub read-facts : (s : List ℕ) (m : Map) → reading s ≡ readAs m → Read s m
 unfolding reading
 read-facts s m e =
+    let c = classesIn s in
     let k = stationsIn s in
     let not-short = passed (leb trailerLength (length s)) Short _ m e in
-    let row-ok = passed (eqb (rowLengthIn s) rowLength) RowLength _ m (not-short .1) in
+    let row-ok = passed (isRowLength (rowLengthIn s)) (Unfit Classes) _ m (not-short .1) in
     let count-ok = passed (isStationCount k) (Unfit Stations) _ m (row-ok .1) in
-    let back-ok = passed (eqb (distanceIn s) (rowLength * k)) Distance _ m (count-ok .1) in
-    let rows-ok = passed (leb (storedLength k) (length s)) Rows _ m (back-ok .1) in
-    let sum-ok = passed (eqb (sumWords s (startIn s) (wordCount k)) 0) CheckWord _ m (rows-ok .1) in
-    let judge-ok = judged-is (isAccepted (acceptance (mapAt s k (lotIn s) (startIn s)))) _ m refl (sum-ok .1) in
+    let back-ok = passed (eqb (distanceIn s) (rowLengthIn s * k)) Distance _ m (count-ok .1) in
+    let rows-ok = passed (leb (storedLength c k) (length s)) Rows _ m (back-ok .1) in
+    let sum-ok = passed (eqb (sumWords s (startIn s) (wordCount c k)) 0) CheckWord _ m (rows-ok .1) in
+    let row-is = row-classes (rowLengthIn s) (row-ok .0) in
+    let judge-ok = judged-is (isAccepted (acceptance (mapAt s c k (lotIn s) (startIn s)))) _ m refl (sum-ok .1) in
     record {
-      row = eqb-true _ _ (row-ok .0);
-      back = eqb-true _ _ (back-ok .0);
+      row = sym (row-is .0);
+      few = row-is .2;
+      back = eqb-true _ _ (back-ok .0) ∙ ap (λ (w : ℕ). w * k) (sym (row-is .0));
       fits = leb-true _ _ (rows-ok .0);
       sum = eqb-true _ _ (sum-ok .0);
       good = ap (λ (n : Map). isAccepted (acceptance n)) (sym (judge-ok .1)) ∙ judge-ok .0;
@@ -190,18 +238,18 @@ module _ (m : Map) (l : List ℕ) where
       (rw no told, rw (no, no))
 
   module _ (ok : isAccepted (acceptance m) ≡ true) where
-    pub too-short : (need : ℕ) → need ≡ storedLength (m .k) → length l < need
+    pub too-short : (need : ℕ) → need ≡ lengthOf m → length l < need
         → (writeFaultNumbers (Buffer need) ≡ writing m (length l)) × (l ≡ written m l)
     unfolding writing written
     too-short need e far =
-        let no : leb (storedLength (m .k)) (length l) ≡ false = lt-leb (storedLength (m .k)) (length l) (omega arith) in
+        let no : leb (lengthOf m) (length l) ≡ false = lt-leb (lengthOf m) (length l) (omega arith) in
         (rw (ok, no) (ap (λ (n : ℕ). writeFaultNumbers (Buffer n)) e), rw (ok, no))
 
-    pub fills : (need : ℕ) (b : List ℕ) → need ≡ storedLength (m .k) → need ≤ length l → b ≡ put l 0 (storedOf m)
+    pub fills : (need : ℕ) (b : List ℕ) → need ≡ lengthOf m → need ≤ length l → b ≡ put l 0 (storedOf m)
         → (writeNumbers (Written need) ≡ writing m (length l)) × (b ≡ written m l)
     unfolding writing written
     fills need b e room laid =
-        let yes : leb (storedLength (m .k)) (length l) ≡ true = le-leb (storedLength (m .k)) (length l) (omega arith) in (
+        let yes : leb (lengthOf m) (length l) ≡ true = le-leb (lengthOf m) (length l) (omega arith) in (
           rw (ok, yes) (ap (λ (n : ℕ). writeNumbers (Written n)) e),
           rw (ok, yes) (laid ∙ put-front l (storedOf m) (omega (arith, length-stored m))
               ∙ ap (λ (n : ℕ). storedOf m ++ drop n l) (length-stored m)),

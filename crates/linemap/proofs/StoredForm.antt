@@ -5,60 +5,70 @@ use mathlib.Core.List.{List, _++_}
 use Prim.Native.Nat.{ℕ, _+_, _*_, _-_, _≤_}
 use native.Mathlib.Omega.{arith}
 use lib.ListN.{length, drop, length-append}
-use Rattle.linemap.specs.Numbers.{bytes, sumWords}
+use Rattle.finite.specs.Numbers.{bytes}
+use Rattle.linemap.specs.Words.{sumWords}
 use Rattle.linemap.specs.internal.Stages.{put}
 use Rattle.finite.specs.Below.{each}
-use Rattle.linemap.specs.Stored.{rowLength, trailerLength, storedLength, wordCount, rowBytes, trailerBytes, bodyOf, storedOf, checkWord}
+use Rattle.linemap.specs.Stored.{rowLength, trailerLength, lengthOf, wordCount, checkWord}
+use Rattle.linemap.specs.Stored.{countBytes, rowBytes, trailerBytes, bodyOf, storedOf}
 use Rattle.linemap.specs.declared.Map.{Map}
 use Rattle.linemap.proofs.Each.{length-each}
 use Rattle.linemap.proofs.Put.{lay, put-front}
-use Rattle.linemap.proofs.Digits.{length-bytes, front-sum}
+use Rattle.finite.proofs.Digits.{length-bytes}
+use Rattle.linemap.proofs.Words.{front-sum}
 
-pub length-row : (counts neighbours : List ℕ) (i : ℕ) → length (rowBytes counts neighbours i) ≡ rowLength
+pub length-counts : (c : ℕ) (counts : List ℕ) (i : ℕ) → length (countBytes c counts i) ≡ 4 * c
+unfolding countBytes
+length-counts c counts i = length-each _ 4 (λ j. length-bytes 4 _) c
+
+length-row : (c : ℕ) (counts neighbours : List ℕ) (i : ℕ) → length (rowBytes c counts neighbours i) ≡ rowLength c
 unfolding rowBytes
-length-row counts neighbours i = simp (length-append, length-bytes)
+length-row c counts neighbours i = simp (length-append, length-bytes, length-counts) (omega arith)
 
-length-trailer : (k lot : ℕ) → length (trailerBytes k lot) ≡ trailerLength - 4
+length-trailer : (w k lot : ℕ) → length (trailerBytes w k lot) ≡ trailerLength - 4
 unfolding trailerBytes
-length-trailer k lot = simp (length-append, length-bytes)
+length-trailer w k lot = simp (length-append, length-bytes)
 
-pub trailer-laid : {stations row back whole : List ℕ} (l : List ℕ) (k lot : ℕ)
-    → stations ≡ put l (rowLength * k) (bytes 2 k)
-    → row ≡ put stations (rowLength * k + 2) (bytes 2 rowLength)
-    → back ≡ put row (rowLength * k + 4) (bytes 4 (rowLength * k))
-    → whole ≡ put back (rowLength * k + 8) (bytes 4 lot)
-    → whole ≡ put l (rowLength * k) (trailerBytes k lot)
+pub trailer-laid : {stations row back whole : List ℕ} (l : List ℕ) (w k lot : ℕ)
+    → stations ≡ put l (w * k) (bytes 2 k)
+    → row ≡ put stations (w * k + 2) (bytes 2 w)
+    → back ≡ put row (w * k + 4) (bytes 4 (w * k))
+    → whole ≡ put back (w * k + 8) (bytes 4 lot)
+    → whole ≡ put l (w * k) (trailerBytes w k lot)
 unfolding trailerBytes
-trailer-laid l k lot to-stations to-row to-back to-lot =
-    let t = rowLength * k in
-    let two = lay l t (bytes 2 k) (bytes 2 rowLength) (t + 2) to-stations to-row (simp length-bytes) in
+trailer-laid l w k lot to-stations to-row to-back to-lot =
+    let t = w * k in
+    let two = lay l t (bytes 2 k) (bytes 2 w) (t + 2) to-stations to-row (simp length-bytes) in
     let three = lay l t _ (bytes 4 t) (t + 4) two to-back (simp (length-append, length-bytes)) in
     lay l t _ (bytes 4 lot) (t + 8) three to-lot (simp (length-append, length-bytes))
 
 module _ (m : Map) where
-  pub length-rows : length (each (rowBytes (m .counts) (m .neighbours)) (m .k)) ≡ rowLength * m .k
-  length-rows = length-each (rowBytes (m .counts) (m .neighbours)) rowLength (length-row (m .counts) (m .neighbours)) (m .k)
+  abbrev c : ℕ
+  c = m .classes
 
-  pub length-body : length (bodyOf m) ≡ storedLength (m .k) - 4
+  pub length-rows : (n : ℕ) → length (each (rowBytes c (m .counts) (m .neighbours)) n) ≡ rowLength c * n
+  length-rows n = length-each (rowBytes c (m .counts) (m .neighbours)) (rowLength c) (length-row c (m .counts) (m .neighbours)) n
+
+  pub length-body : length (bodyOf m) ≡ lengthOf m - 4
   unfolding bodyOf
   length-body = simp (length-append, length-rows, length-trailer) (omega arith)
 
-  pub length-stored : length (storedOf m) ≡ storedLength (m .k)
+  pub length-stored : length (storedOf m) ≡ lengthOf m
   unfolding storedOf
   length-stored = simp (length-append, length-body, length-bytes) (omega arith)
 
-  pub stored-laid : {rows body whole : List ℕ} {sum check : ℕ} (l : List ℕ) → storedLength (m .k) ≤ length l
-      → rows ≡ put l 0 (each (rowBytes (m .counts) (m .neighbours)) (m .k))
-      → body ≡ put rows (rowLength * m .k) (trailerBytes (m .k) (m .lot))
-      → sum ≡ sumWords body 0 (wordCount (m .k) - 1)
+  pub stored-laid : {rows body whole : List ℕ} {sum check : ℕ} (l : List ℕ) → lengthOf m ≤ length l
+      → rows ≡ put l 0 (each (rowBytes c (m .counts) (m .neighbours)) (m .k))
+      → body ≡ put rows (rowLength c * m .k) (trailerBytes (rowLength c) (m .k) (m .lot))
+      → sum ≡ sumWords body 0 (wordCount c (m .k) - 1)
       → check ≡ checkWord sum
-      → whole ≡ put body (storedLength (m .k) - 4) (bytes 4 check)
+      → whole ≡ put body (lengthOf m - 4) (bytes 4 check)
       → whole ≡ put l 0 (storedOf m)
   unfolding storedOf bodyOf
   stored-laid {check = check} l fits rows-are body-is sum-is check-is whole-is =
-      let n = wordCount (m .k) - 1 in
-      let laid : _ ≡ put l 0 (bodyOf m) = lay l 0 _ _ (rowLength * m .k) rows-are body-is (omega (arith, length-rows)) in
+      let n = wordCount c (m .k) - 1 in
+      let laid : _ ≡ put l 0 (bodyOf m) = lay l 0 _ _ (rowLength c * m .k) rows-are body-is (omega (arith, length-rows (m .k))) in
       let sum-of-body = sum-is ∙ ap (λ (b : List ℕ). sumWords b 0 n) (laid ∙ put-front l (bodyOf m) (omega (arith, length-body)))
       ∙ front-sum (bodyOf m) (drop (length (bodyOf m)) l) n 0 (omega (arith, length-body)) in
-      lay l 0 (bodyOf m) (bytes 4 check) (storedLength (m .k) - 4) laid whole-is (omega (arith, length-body))
+      lay l 0 (bodyOf m) (bytes 4 check) (lengthOf m - 4) laid whole-is (omega (arith, length-body))
       ∙ ap (λ (w : ℕ). put l 0 (bodyOf m ++ bytes 4 w)) (check-is ∙ ap checkWord sum-of-body)

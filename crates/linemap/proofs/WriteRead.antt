@@ -1,27 +1,31 @@
 -- Writing, then reading: each field of the stored form is found again where the reader looks for it, whatever stands before, and
--- the map of these fields is accepted since the sets below k are the same. Assumes nothing.
+-- the map of these fields is accepted since the class count and the sets below k are the same. Assumes nothing.
 use mathlib.Core.Path.{_≡_, sym, ap, ap₂, _∙_}
+use mathlib.Core.Bool.{true}
 use mathlib.Core.List.{List, _++_, append-assoc}
-use Prim.Native.Nat.{ℕ, suc, _+_, _*_, _-_, _%_, _^_, _<_}
-use native.Mathlib.Nat.{mod-eq-of-lt}
+use Prim.Native.Nat.{ℕ, suc, _+_, _*_, _-_, _%_, _^_, _≤_, _<_}
+use native.Mathlib.Nat.{mod-eq-of-lt, mul-le-mul-right}
 use native.Mathlib.Omega.{arith}
 use lib.ListN.{length, getD, length-append}
 use borrow.Author.Tests.{eq-eqb, lt-ltb, le-leb}
-use Rattle.aggregate.specs.Aggregate.{rootOf}
+use Rattle.aggregate.specs.Aggregate.{rootOf, isClassCount}
 use Rattle.topology.specs.Answer.{accepted, isAccepted}
 use Rattle.topology.specs.Web.{Web}
-use Rattle.topology.proofs.Webs.{web-accepted, web-agree}
-use Rattle.linemap.specs.Numbers.{number, bytes, sumWords}
+use Rattle.topology.proofs.Webs.{web-agree}
+use Rattle.finite.specs.Numbers.{number, bytes}
+use Rattle.linemap.specs.Words.{sumWords}
 use Rattle.finite.specs.Below.{each}
-use Rattle.linemap.specs.Maps.{configOf, acceptance}
-use Rattle.linemap.specs.Stored.{rowLength, storedLength, wordCount, rowBytes, trailerBytes, bodyOf, storedOf, checkWord}
+use Rattle.linemap.specs.Maps.{configOf, acceptance, place, countAt}
+use Rattle.linemap.specs.Stored.{rowLength, lengthOf, wordCount, countBytes, rowBytes, trailerBytes, bodyOf, storedOf, checkWord}
 use Rattle.linemap.specs.Reading.{readAs, stationsIn, rowLengthIn, distanceIn, lotIn, mapAt, judged, reading}
 use Rattle.linemap.specs.RoundTrip.{Fits, clearedOf}
 use Rattle.linemap.specs.declared.Map.{Map}
-use Rattle.linemap.proofs.Accepted.{map-web}
-use Rattle.linemap.proofs.Each.{length-each, each-split, column-same, column-at}
-use Rattle.linemap.proofs.Digits.{length-bytes, front-number, past-number, front-sum, past-sum, number-of-bytes, sum-small, check-small, check-zero}
-use Rattle.linemap.proofs.StoredForm.{length-row, length-rows, length-body, length-stored}
+use Rattle.linemap.proofs.Accepted.{map-classes, map-web, map-accepted}
+use Rattle.linemap.proofs.Each.{each-split, column-same, column-at, grid-same}
+use Rattle.finite.proofs.Digits.{length-bytes, front-number, past-number, number-of-bytes}
+use Rattle.linemap.proofs.Words.{front-sum, past-sum, sum-small, check-small, check-zero}
+use Rattle.linemap.proofs.StoredForm.{length-counts, length-rows, length-body, length-stored}
+use Rattle.aggregate.proofs.Laws.{class-count}
 use Rattle.linemap.proofs.Rules.{reading-left}
 
 -- a number of n bytes that stands between two lists
@@ -33,22 +37,28 @@ number-between p q n x at e small =
     ∙ mod-eq-of-lt small
 
 module _ (m : Map) where
+  abbrev c : ℕ
+  c = m .classes
+
+  abbrev w : ℕ
+  w = rowLength c
+
   abbrev row : ℕ → List ℕ
-  row = rowBytes (m .counts) (m .neighbours)
+  row = rowBytes c (m .counts) (m .neighbours)
 
   abbrev rows : List ℕ
   rows = each row (m .k)
 
   abbrev check : ℕ
-  check = checkWord (sumWords (bodyOf m) 0 (wordCount (m .k) - 1))
+  check = checkWord (sumWords (bodyOf m) 0 (wordCount c (m .k) - 1))
 
   -- all the words add to zero
-  sum-zero : sumWords (storedOf m) 0 (wordCount (m .k)) ≡ 0
+  sum-zero : sumWords (storedOf m) 0 (wordCount c (m .k)) ≡ 0
   unfolding sumWords storedOf
   sum-zero =
-      let n = wordCount (m .k) - 1 in
+      let n = wordCount c (m .k) - 1 in
       let body = bodyOf m in
-      let last : wordCount (m .k) ≡ suc n = omega arith in
+      let last : wordCount c (m .k) ≡ suc n = omega arith in
       let check-read : number (body ++ bytes 4 check) (0 + 4 * n) 4 ≡ check =
       past-number body (bytes 4 check) 4 0 (0 + 4 * n) (omega (arith, length-body m))
       ∙ number-of-bytes 4 check
@@ -61,10 +71,17 @@ module _ (m : Map) where
     web : Web (rootOf (configOf m)) (m .k) (m .neighbours)
     web = map-web m (ap isAccepted ok)
 
+    classes : isClassCount c ≡ true
+    classes = map-classes m (ap isAccepted ok)
+
+    -- the distance is a number of four bytes
+    near : w * m .k ≤ 40 * m .k
+    near = mul-le-mul-right (m .k) (let least = class-count c classes in let short : w ≤ 40 = omega arith in short)
+
     abbrev whole : List ℕ
     whole = before ++ storedOf m
 
-    len : length whole ≡ length before + storedLength (m .k)
+    len : length whole ≡ length before + lengthOf m
     len = length-append before (storedOf m) ∙ omega (arith, length-stored m)
 
     -- a number of n bytes, with what is stored before and after it
@@ -77,69 +94,80 @@ module _ (m : Map) where
     stations-are : stationsIn whole ≡ m .k
     unfolding storedOf bodyOf trailerBytes
     stations-are =
-        field rows (bytes 2 rowLength ++ (bytes 4 (rowLength * m .k) ++ (bytes 4 (m .lot) ++ bytes 4 check))) 2 (m .k) _
-        (simp append-assoc) (omega (arith, len, length-rows m)) (omega (arith, web .few-stations))
+        field rows (bytes 2 w ++ (bytes 4 (w * m .k) ++ (bytes 4 (m .lot) ++ bytes 4 check))) 2 (m .k) _
+        (simp append-assoc) (omega (arith, len, length-rows m (m .k))) (omega (arith, web .few-stations))
 
-    row-is : rowLengthIn whole ≡ rowLength
+    row-is : rowLengthIn whole ≡ w
     unfolding storedOf bodyOf trailerBytes
     row-is =
-        field (rows ++ bytes 2 (m .k)) (bytes 4 (rowLength * m .k) ++ (bytes 4 (m .lot) ++ bytes 4 check)) 2 rowLength _
-        (simp append-assoc) (simp (length-append, length-bytes) (omega (arith, len, length-rows m))) (omega arith)
+        field (rows ++ bytes 2 (m .k)) (bytes 4 (w * m .k) ++ (bytes 4 (m .lot) ++ bytes 4 check)) 2 w _
+        (simp append-assoc) (simp (length-append, length-bytes) (omega (arith, len, length-rows m (m .k))))
+        (omega (arith, class-count c classes))
 
-    distance-is : distanceIn whole ≡ rowLength * m .k
+    distance-is : distanceIn whole ≡ w * m .k
     unfolding storedOf bodyOf trailerBytes
     distance-is =
-        field (rows ++ (bytes 2 (m .k) ++ bytes 2 rowLength)) (bytes 4 (m .lot) ++ bytes 4 check) 4 (rowLength * m .k) _
-        (simp append-assoc) (simp (length-append, length-bytes) (omega (arith, len, length-rows m))) (omega (arith, web .few-stations))
+        field (rows ++ (bytes 2 (m .k) ++ bytes 2 w)) (bytes 4 (m .lot) ++ bytes 4 check) 4 (w * m .k) _
+        (simp append-assoc) (simp (length-append, length-bytes) (omega (arith, len, length-rows m (m .k))))
+        (omega (arith, near, web .few-stations))
 
     lot-is : lotIn whole ≡ m .lot
     unfolding storedOf bodyOf trailerBytes
     lot-is =
-        field (rows ++ (bytes 2 (m .k) ++ (bytes 2 rowLength ++ bytes 4 (rowLength * m .k)))) (bytes 4 check) 4 (m .lot) _
-        (simp append-assoc) (simp (length-append, length-bytes) (omega (arith, len, length-rows m))) (fits .lot)
+        field (rows ++ (bytes 2 (m .k) ++ (bytes 2 w ++ bytes 4 (w * m .k)))) (bytes 4 check) 4 (m .lot) _
+        (simp append-assoc) (simp (length-append, length-bytes) (omega (arith, len, length-rows m (m .k)))) (fits .lot)
 
-    sum-is : sumWords whole (length before) (wordCount (m .k)) ≡ 0
-    sum-is = past-sum before (storedOf m) (wordCount (m .k)) 0 (length before) (omega arith) ∙ sum-zero
+    sum-is : sumWords whole (length before) (wordCount c (m .k)) ≡ 0
+    sum-is = past-sum before (storedOf m) (wordCount c (m .k)) 0 (length before) (omega arith) ∙ sum-zero
 
-    -- the two numbers of row i
+    -- the numbers of row i
     module _ (i : ℕ) (h : i < m .k) where
+      abbrev counts : ℕ → List ℕ
+      counts n = countBytes n (m .counts) i
+
+      abbrev set : List ℕ
+      set = bytes 8 (getD (m .neighbours) i 0)
+
       abbrev rest : List ℕ
-      rest = each-split row (m .k) i h .0 ++ (trailerBytes (m .k) (m .lot) ++ bytes 4 check)
+      rest = each-split row (m .k) i h .0 ++ (trailerBytes w (m .k) (m .lot) ++ bytes 4 check)
 
-      split : storedOf m ≡ each row i ++ (row i ++ rest)
-      unfolding storedOf bodyOf
-      split = ap (λ (l : List ℕ). l ++ trailerBytes (m .k) (m .lot) ++ bytes 4 check) (each-split row (m .k) i h .1) ∙ simp append-assoc
+      split : storedOf m ≡ each row i ++ (counts c ++ (set ++ rest))
+      unfolding storedOf bodyOf rowBytes
+      split = ap (λ (l : List ℕ). l ++ trailerBytes w (m .k) (m .lot) ++ bytes 4 check) (each-split row (m .k) i h .1) ∙ simp append-assoc
 
-      length-before : length (each row i) ≡ rowLength * i
-      length-before = length-each row rowLength (length-row (m .counts) (m .neighbours)) i
+      -- behind the first n counts
+      behind : (n : ℕ) → length before + w * i + 4 * n ≡ length before + length (each row i ++ counts n)
+      behind n = omega (arith, length-append (each row i) (counts n), length-rows m i, length-counts n (m .counts) i)
 
-    count-at : (i : ℕ) → i < m .k → number whole (length before + rowLength * i) 4 ≡ getD (m .counts) i 0
-    unfolding rowBytes
-    count-at i h =
-        field (each row i) (bytes 8 (getD (m .neighbours) i 0) ++ rest i h) 4 (getD (m .counts) i 0) _
-        (split i h ∙ simp append-assoc) (omega (arith, length-before i h)) (fits .counts i)
+    count-at : (i j : ℕ) → i < m .k → j < c → number whole (length before + w * i + 4 * j) 4 ≡ countAt m i j
+    unfolding countBytes
+    count-at i j h l =
+        let after = each-split (λ n. bytes 4 (countAt m i n)) c j l in
+        field (each row i ++ counts i h j) (after .0 ++ (set i h ++ rest i h)) 4 (countAt m i j) _
+        (split i h ∙ ap (λ (x : List ℕ). each row i ++ (x ++ (set i h ++ rest i h))) (after .1) ∙ simp append-assoc)
+        (behind i h j) (fits .counts (place i j))
 
-    set-at : (i : ℕ) → i < m .k → number whole (length before + rowLength * i + 4) 8 ≡ getD (m .neighbours) i 0
-    unfolding rowBytes
+    set-at : (i : ℕ) → i < m .k → number whole (length before + w * i + 4 * c) 8 ≡ getD (m .neighbours) i 0
     set-at i h =
-        field (each row i ++ bytes 4 (getD (m .counts) i 0)) (rest i h) 8 (getD (m .neighbours) i 0) _
-        (split i h ∙ simp append-assoc) (simp (length-append, length-bytes) (omega (arith, length-before i h))) (fits .neighbours i)
+        field (each row i ++ counts i h c) (rest i h) 8 (getD (m .neighbours) i 0) _
+        (split i h ∙ sym (append-assoc (each row i) (counts i h c) (set i h ++ rest i h)))
+        (behind i h c) (fits .neighbours i)
 
-    map-is : mapAt whole (m .k) (m .lot) (length before) ≡ clearedOf m
+    map-is : mapAt whole c (m .k) (m .lot) (length before) ≡ clearedOf m
     map-is =
-        ap₂ (λ (x y : List ℕ). record { k = m .k; lot = m .lot; counts = x; neighbours = y })
-        (column-same _ _ (m .k) count-at) (column-same _ _ (m .k) set-at)
+        ap₂ (λ (x y : List ℕ). record { k = m .k; classes = c; lot = m .lot; counts = x; neighbours = y })
+        (grid-same _ _ c (m .k) count-at) (column-same 64 _ _ (m .k) set-at)
 
     -- the sets below k are those of m
     cleared-accepted : acceptance (clearedOf m) ≡ accepted
     cleared-accepted =
-        web-accepted (rootOf (configOf m)) (m .k) (clearedOf m .neighbours)
+        map-accepted (clearedOf m) classes
         (web-agree (rootOf (configOf m)) (m .k) (m .neighbours) (clearedOf m .neighbours)
-        (λ i h. sym (column-at (λ j. getD (m .neighbours) j 0) (m .k) i h)) web)
+        (λ i h. sym (column-at 64 (λ j. getD (m .neighbours) j 0) (m .k) i h)) web)
 
     pub written-reads : reading whole ≡ readAs (clearedOf m)
     written-reads =
-        reading-left whole (m .k) (m .lot) (length before) stations-are lot-is len row-is
+        reading-left whole c (m .k) (m .lot) (length before) stations-are lot-is len row-is classes
         (rw (lt-ltb 0 (m .k) (web .some-station), le-leb (m .k) 64 (web .few-stations))) distance-is
-        ∙ rw (eq-eqb (sumWords whole (length before) (wordCount (m .k))) 0 sum-is)
+        ∙ rw (eq-eqb (sumWords whole (length before) (wordCount c (m .k))) 0 sum-is)
         (ap judged map-is ∙ rw (ap isAccepted cleared-accepted))

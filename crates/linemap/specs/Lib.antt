@@ -1,4 +1,4 @@
-pub mod Numbers
+pub mod Words
 pub mod Maps
 pub mod Stored
 pub mod Reading

@@ -1,37 +1,50 @@
--- A line map by value, and the rules on one that is handed over (document 01, "The line map").
+-- A line map by value, and the rules on one that is handed over (document 01, "The line map"; document 02, request 2).
 use mathlib.Core.Bool.{cond}
 use mathlib.Core.List.{List}
-use Prim.Native.Nat.{ℕ}
+use Prim.Native.Nat.{ℕ, _+_, _*_}
 use lib.ListN.{getD}
 use Rattle.finite.specs.Sum.{sum}
+use Rattle.finite.specs.Tests.{unless}
 use Rattle.finite.specs.Links.{links}
 use Rattle.aggregate.specs.declared.Config.{Config}
-use Rattle.aggregate.specs.declared.Aggregate.{Aggregate}
-use Rattle.aggregate.specs.Aggregate.{rootOf, isMissing}
-use Rattle.topology.specs.Acceptance.{linked, verdictOf, linksOf}
+use Rattle.aggregate.specs.declared.Cell.{Cell}
+use Rattle.aggregate.specs.Aggregate.{rootOf, isClassCount, isMissing}
+use Rattle.topology.specs.declared.Fault.the-variants.{Classes}
+use Rattle.topology.specs.Acceptance.{faultNumbers, linked, verdictOf, linksOf}
 use Rattle.linemap.specs.declared.Map.{Map}
 
 -- what a net on this map is opened with
 abbrev pub configOf : Map → Config
-configOf m = record { k = m .k }
+configOf m = record { k = m .k; classes = m .classes }
 
--- "a map handed over goes 3, 7 to 10" (Causes and numbers): the number with its values
+-- "A map handed over with c not 1 to 8 gets 2, before 3" (document 02, request 2): that number, or what comes after
+abbrev pub classesFirst : Map → List ℕ → List ℕ
+classesFirst m rest = unless (isClassCount (m .classes)) (faultNumbers Classes) rest
+
+-- "a map handed over goes 3, 7 to 10" (Causes and numbers), after 2: the number with its values
 abbrev pub acceptance : Map → List ℕ
-acceptance m = verdictOf (rootOf (configOf m)) (m .k) (m .neighbours)
+acceptance m = classesFirst m (verdictOf (rootOf (configOf m)) (m .k) (m .neighbours))
 
 -- "A link is an unordered pair; m counts them": 0 and m, or the number of the refusal
 abbrev pub linksIn : Map → List ℕ
-linksIn m = linksOf (rootOf (configOf m)) (m .k) (m .neighbours)
+linksIn m = classesFirst m (linksOf (rootOf (configOf m)) (m .k) (m .neighbours))
 
 -- m of document 01, as a number
 abbrev pub linkCount : Map → ℕ
 linkCount m = links (m .k) (linked (m .k) (m .neighbours))
 
--- the count of station i
-abbrev pub countAt : Map → ℕ → ℕ
-countAt m i = getD (m .counts) i 0
+-- "A row may hold c counts, 1 to 8" (document 02, request 2): where the one of station i and class j stands
+abbrev pub place : ℕ → ℕ → ℕ
+place i j = 8 * i + j
 
--- "the sum over heads with a reading, together with how many had none" (document 02, request 1)
-abbrev pub totals : Map → Aggregate
-totals m =
-    record { sum = sum (m .k) (λ i. cond (isMissing (countAt m i)) 0 (countAt m i)); missing = sum (m .k) (λ i. cond (isMissing (countAt m i)) 1 0) }
+-- the count of station i and class j
+abbrev pub countAt : Map → ℕ → ℕ → ℕ
+countAt m i j = getD (m .counts) (place i j) 0
+
+-- "the sum over heads with a reading, together with how many had none" (document 02, request 1), class by class: "each class reports its
+-- own total" (request 2)
+abbrev pub totals : Map → ℕ → Cell
+totals m j =
+    let added = sum (m .k) (λ i. cond (isMissing (countAt m i j)) 0 (countAt m i j)) in
+    let missing = sum (m .k) (λ i. cond (isMissing (countAt m i j)) 1 0) in
+    record { sum = added; missing = missing }

@@ -1,15 +1,18 @@
--- What reading gives (document 01, "The line map" and "Causes and numbers": "Reading goes 1 to 10").
+-- What reading gives (document 01, "The line map" and "Causes and numbers": "Reading goes 1 to 10"; document 02, request 2: c counts in a
+-- row).
+use mathlib.Core.Bool.{Bool, _&&_}
 use mathlib.Core.List.{List, [], _∷_, _++_}
-use Prim.Native.Nat.{ℕ, _+_, _*_, _-_}
+use Prim.Native.Nat.{ℕ, _+_, _*_, _-_, _/_, _%_}
 use lib.ListN.{length, replicate}
 use lib.Dec.{leb, eqb}
 use Rattle.topology.specs.Answer.{accepted, isAccepted}
 use Rattle.finite.specs.Tests.{unless}
 use Rattle.topology.specs.Acceptance.{faultNumbers}
 use Rattle.bitset.specs.Set.{isStationCount}
-use Rattle.topology.specs.declared.Fault.the-variants.{Stations}
-use Rattle.linemap.specs.Numbers.{number, sumWords}
-use Rattle.finite.specs.Below.{tabulate}
+use Rattle.topology.specs.declared.Fault.the-variants.{Classes, Stations}
+use Rattle.finite.specs.Numbers.{number}
+use Rattle.linemap.specs.Words.{sumWords}
+use Rattle.finite.specs.Below.{each, tabulate}
 use Rattle.linemap.specs.Maps.{acceptance}
 use Rattle.linemap.specs.Stored.{rowLength, trailerLength, storedLength, wordCount}
 use Rattle.linemap.specs.declared.Map.{Map}
@@ -17,13 +20,12 @@ use Rattle.linemap.specs.declared.MapRead.{MapRead}
 use Rattle.linemap.specs.declared.ReadAnswer.{ReadAnswer}
 use Rattle.linemap.specs.declared.ReadAnswer.the-variants.{Accepted, Refused}
 use Rattle.linemap.specs.declared.ReadFault.{ReadFault}
-use Rattle.linemap.specs.declared.ReadFault.the-variants.{Short, RowLength, Distance, Rows, CheckWord, Unfit}
+use Rattle.linemap.specs.declared.ReadFault.the-variants.{Short, Distance, Rows, CheckWord, Unfit}
 
 -- "Causes and numbers": the number of each refusal, with its values. `read-pins` (proofs/Answers) says that the numbers tell the
 -- answers apart.
 abbrev pub readFaultNumbers : ReadFault → List ℕ
 readFaultNumbers Short = 1 ∷ []
-readFaultNumbers RowLength = 2 ∷ []
 readFaultNumbers Distance = 4 ∷ []
 readFaultNumbers Rows = 5 ∷ []
 readFaultNumbers CheckWord = 6 ∷ []
@@ -45,7 +47,7 @@ readOutcomeOf r = record { numbers = readNumbers (r .answer); map = r .map }
 
 -- the map of a refused reading: all zero
 abbrev pub emptyMap : Map
-emptyMap = record { k = 0; lot = 0; counts = replicate 64 0; neighbours = replicate 64 0 }
+emptyMap = record { k = 0; classes = 0; lot = 0; counts = replicate 512 0; neighbours = replicate 64 0 }
 
 -- a refusal hands back the empty map
 abbrev pub readRefused : ReadFault → ReadOutcome
@@ -67,6 +69,18 @@ stationsIn s = number s (trailerIn s) 2
 abbrev pub rowLengthIn : List ℕ → ℕ
 rowLengthIn s = number s (trailerIn s + 2) 2
 
+-- "row length not one of 12, 16, .. 40" is refused (document 02, request 2)
+abbrev pub isRowLength : ℕ → Bool
+isRowLength w = eqb (w % 4) 0 && leb 12 w && leb w 40
+
+-- "the row length is 8 + 4 × c" (document 02, request 2): c of a row length
+abbrev pub classesOf : ℕ → ℕ
+classesOf w = (w - 8) / 4
+
+-- the class count of the row length found
+abbrev pub classesIn : List ℕ → ℕ
+classesIn s = classesOf (rowLengthIn s)
+
 -- "distance back .. (4)"
 abbrev pub distanceIn : List ℕ → ℕ
 distanceIn s = number s (trailerIn s + 4) 4
@@ -77,20 +91,28 @@ lotIn s = number s (trailerIn s + 8) 4
 
 -- where the first row starts; "what stands before it is not read"
 abbrev pub startIn : List ℕ → ℕ
-startIn s = length s - storedLength (stationsIn s)
+startIn s = length s - storedLength (classesIn s) (stationsIn s)
 
--- 64 places, f of each place below k: "Reading gives zero in places k and above"
-unfoldable pub column : (ℕ → ℕ) → ℕ → List ℕ
-column f k = tabulate k f ++ replicate (64 - k) 0
+-- so many places, f of each place below n: "Reading gives zero in places k and above"
+unfoldable pub column : ℕ → (ℕ → ℕ) → ℕ → List ℕ
+column size f n = tabulate n f ++ replicate (size - n) 0
 
--- the map of k rows from `start`: "count 4, set 8"
-abbrev pub mapAt : List ℕ → ℕ → ℕ → ℕ → Map
-mapAt s k lot start =
-    let counts = column (λ i. number s (start + rowLength * i) 4) k in
-    let neighbours = column (λ i. number s (start + rowLength * i + 4) 8) k in
-    record { k = k; lot = lot; counts = counts; neighbours = neighbours }
+-- 64 stations of 8 places, f i j in place j of station i below c and k: "places past c go as those past k" (document 02, request 2)
+unfoldable pub grid : (ℕ → ℕ → ℕ) → ℕ → ℕ → List ℕ
+grid f c k = each (λ i. column 8 (f i) c) k ++ replicate (8 * (64 - k)) 0
 
--- 7 to 10 (3 is tested before)
+-- count j of the row from `at`: "count 4"
+abbrev pub countIn : List ℕ → ℕ → ℕ → ℕ
+countIn s at j = number s (at + 4 * j) 4
+
+-- the map of k rows with c counts from `start`: c counts "before its set" (document 02, request 2), "set 8"
+abbrev pub mapAt : List ℕ → ℕ → ℕ → ℕ → ℕ → Map
+mapAt s c k lot start =
+    let counts = grid (λ i. countIn s (start + rowLength c * i)) c k in
+    let neighbours = column 64 (λ i. number s (start + rowLength c * i + 4 * c) 8) k in
+    record { k = k; classes = c; lot = lot; counts = counts; neighbours = neighbours }
+
+-- 7 to 10 (2 and 3 are tested before)
 abbrev pub judged : Map → ReadOutcome
 judged m = unless (isAccepted (acceptance m)) (record { numbers = acceptance m; map = emptyMap }) (readAs m)
 
@@ -98,9 +120,9 @@ judged m = unless (isAccepted (acceptance m)) (record { numbers = acceptance m; 
 unfoldable pub reading : List ℕ → ReadOutcome
 reading s =
     unless (leb trailerLength (length s)) (readRefused Short)
-    (unless (eqb (rowLengthIn s) rowLength) (readRefused RowLength)
+    (unless (isRowLength (rowLengthIn s)) (readRefused (Unfit Classes))
     (unless (isStationCount (stationsIn s)) (readRefused (Unfit Stations))
-    (unless (eqb (distanceIn s) (rowLength * stationsIn s)) (readRefused Distance)
-    (unless (leb (storedLength (stationsIn s)) (length s)) (readRefused Rows)
-    (unless (eqb (sumWords s (startIn s) (wordCount (stationsIn s))) 0) (readRefused CheckWord)
-    (judged (mapAt s (stationsIn s) (lotIn s) (startIn s))))))))
+    (unless (eqb (distanceIn s) (rowLengthIn s * stationsIn s)) (readRefused Distance)
+    (unless (leb (storedLength (classesIn s) (stationsIn s)) (length s)) (readRefused Rows)
+    (unless (eqb (sumWords s (startIn s) (wordCount (classesIn s) (stationsIn s))) 0) (readRefused CheckWord)
+    (judged (mapAt s (classesIn s) (stationsIn s) (lotIn s) (startIn s))))))))

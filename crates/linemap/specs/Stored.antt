@@ -1,44 +1,55 @@
--- The stored form of a line map (document 01, "The line map", second paragraph).
+-- The stored form of a line map (document 01, "The line map", second paragraph; document 02, request 2: c counts in a row).
 use mathlib.Core.List.{List, _++_}
 use Prim.Native.Nat.{ℕ, _+_, _*_, _-_, _/_, _%_, _^_}
 use lib.ListN.{getD}
-use Rattle.linemap.specs.Numbers.{bytes, sumWords}
+use Rattle.finite.specs.Numbers.{bytes}
+use Rattle.linemap.specs.Words.{sumWords}
 use Rattle.finite.specs.Below.{each}
+use Rattle.linemap.specs.Maps.{place}
 use Rattle.linemap.specs.declared.Map.{Map}
 
--- "k rows of 12 bytes"
-abbrev pub rowLength : ℕ
-rowLength = 12
+-- "the row length is 8 + 4 × c" (document 02, request 2)
+abbrev pub rowLength : ℕ → ℕ
+rowLength c = 8 + 4 * c
 
 -- "a trailer of 16 bytes"
 abbrev pub trailerLength : ℕ
 trailerLength = 16
 
--- "12 × k + 16" bytes
-abbrev pub storedLength : ℕ → ℕ
-storedLength k = rowLength * k + trailerLength
+-- k rows and the trailer, in bytes; "4, 5 and 15 use the row length found" (document 02, request 2)
+abbrev pub storedLength : ℕ → ℕ → ℕ
+storedLength c k = rowLength c * k + trailerLength
 
--- "All 3 × k + 4 words of 32 bits"
-abbrev pub wordCount : ℕ → ℕ
-wordCount k = storedLength k / 4
+-- the bytes that a map fills
+abbrev pub lengthOf : Map → ℕ
+lengthOf m = storedLength (m .classes) (m .k)
 
--- row i: "count 4, set 8"
-unfoldable pub rowBytes : List ℕ → List ℕ → ℕ → List ℕ
-rowBytes counts neighbours i = bytes 4 (getD counts i 0) ++ bytes 8 (getD neighbours i 0)
+-- "(c + 2) × k + 4 words" (document 02, request 2): all the words of 32 bits
+abbrev pub wordCount : ℕ → ℕ → ℕ
+wordCount c k = storedLength c k / 4
+
+-- "c counts, 1 to 8, before its set" (document 02, request 2): those of station i
+unfoldable pub countBytes : ℕ → List ℕ → ℕ → List ℕ
+countBytes c counts i = each (λ j. bytes 4 (getD counts (place i j) 0)) c
+
+-- row i: "count 4, set 8", with c counts
+unfoldable pub rowBytes : ℕ → List ℕ → List ℕ → ℕ → List ℕ
+rowBytes c counts neighbours i = countBytes c counts i ++ bytes 8 (getD neighbours i 0)
 
 -- the trailer, but for the check word: "k (2 bytes), row length 12 (2), distance back from the trailer's first byte to the first
--- row, 12 × k (4), lot (4)"
-unfoldable pub trailerBytes : ℕ → ℕ → List ℕ
-trailerBytes k lot = bytes 2 k ++ bytes 2 rowLength ++ bytes 4 (rowLength * k) ++ bytes 4 lot
+-- row, 12 × k (4), lot (4)", for rows of w bytes: "the distance back is the row length times k" (document 02, request 2)
+unfoldable pub trailerBytes : ℕ → ℕ → ℕ → List ℕ
+trailerBytes w k lot = bytes 2 k ++ bytes 2 w ++ bytes 4 (w * k) ++ bytes 4 lot
 
 -- all but the check word
 unfoldable pub bodyOf : Map → List ℕ
-bodyOf m = each (rowBytes (m .counts) (m .neighbours)) (m .k) ++ trailerBytes (m .k) (m .lot)
+bodyOf m =
+    each (rowBytes (m .classes) (m .counts) (m .neighbours)) (m .k) ++ trailerBytes (rowLength (m .classes)) (m .k) (m .lot)
 
 -- what takes a sum of words to zero
 unfoldable pub checkWord : ℕ → ℕ
 checkWord sum = (2 ^ 32 - sum) % 2 ^ 32
 
--- "check word (4). All 3 × k + 4 words of 32 bits, added with wrap at 2^32, give zero."
+-- "check word (4)": all words "added with wrap at 2^32, give zero"
 unfoldable pub storedOf : Map → List ℕ
-storedOf m = bodyOf m ++ bytes 4 (checkWord (sumWords (bodyOf m) 0 (wordCount (m .k) - 1)))
+storedOf m = bodyOf m ++ bytes 4 (checkWord (sumWords (bodyOf m) 0 (wordCount (m .classes) (m .k) - 1)))

@@ -1,5 +1,5 @@
 -- What writing gives (document 01, "The line map" and "Causes and numbers": "a map handed over goes 3, 7 to 10, and to be written
--- then 15").
+-- then 15"; 2 comes first, document 02, request 2).
 use mathlib.Core.List.{List, [], _∷_, _++_}
 use Prim.Native.Nat.{ℕ}
 use lib.ListN.{length, drop}
@@ -8,7 +8,7 @@ use Rattle.topology.specs.Answer.{isAccepted}
 use Rattle.finite.specs.Tests.{unless}
 use Rattle.topology.specs.Acceptance.{faultNumbers}
 use Rattle.linemap.specs.Maps.{acceptance}
-use Rattle.linemap.specs.Stored.{storedLength, storedOf}
+use Rattle.linemap.specs.Stored.{lengthOf, storedOf}
 use Rattle.linemap.specs.declared.Map.{Map}
 use Rattle.linemap.specs.declared.WriteFault.{WriteFault}
 use Rattle.linemap.specs.declared.WriteFault.the-variants.{Unfit, Buffer}
@@ -30,11 +30,11 @@ writeNumbers (Refused fault) = writeFaultNumbers fault
 unfoldable pub writing : Map → ℕ → List ℕ
 writing m n =
     unless (isAccepted (acceptance m)) (acceptance m)
-    (unless (leb (storedLength (m .k)) n) (writeNumbers (Refused (Buffer (storedLength (m .k)))))
-    (writeNumbers (Written (storedLength (m .k)))))
+    (unless (leb (lengthOf m) n) (writeNumbers (Refused (Buffer (lengthOf m))))
+    (writeNumbers (Written (lengthOf m))))
 
--- the buffer after: the stored form, which "starts at the first lent byte, and leaves the lent bytes past 12 × k + 16 untouched";
--- a refusal leaves the "whole buffer". `length-stored` (proofs/StoredForm) says how long the stored form is.
+-- the buffer after: the stored form, which "starts at the first lent byte", and past it the bytes "untouched"; a refusal leaves the
+-- "whole buffer". `length-stored` (proofs/StoredForm) says how long the stored form is.
 unfoldable pub written : Map → List ℕ → List ℕ
 written m buffer =
-    unless (isAccepted (writing m (length buffer))) buffer (storedOf m ++ drop (storedLength (m .k)) buffer)
+    unless (isAccepted (writing m (length buffer))) buffer (storedOf m ++ drop (lengthOf m) buffer)

@@ -4,6 +4,7 @@ use topology::Fault;
 use topology::LinksAnswer;
 use topology::Verdict;
 ghost use mathlib.Core.Path.{_≡_};
+ghost use Prim.Native.Nat.{_≤_};
 ghost use lib.ListN.{length};
 ghost use Rattle.topology.specs.Acceptance;
 ghost use Rattle.linemap.specs.Maps;
@@ -15,16 +16,24 @@ mod numbers;
 mod reading;
 mod writing;
 
-const ROW_LENGTH: usize = 12;
+// The bytes of a count, and of a set, in a row.
+const COUNT_LENGTH: usize = 4;
+
+const SET_LENGTH: usize = 8;
 
 const TRAILER_LENGTH: usize = 16;
 
-// A line map by value: the lot number, and each station's count and set of neighbours. Places k and above hold zero after reading.
+// The places that a station has among the counts.
+const PLACES: usize = 8;
+
+// A line map by value: the lot number, and each station's counts, one a class, and set of neighbours. The count of station i and class j
+// stands at place 8 × i + j. Places of stations past k and of classes past the class count hold zero after reading.
 #[repr(C)]
 pub struct Map {
     pub k: u8,
+    pub classes: u8,
     pub lot: u32,
-    pub counts: [u32; 64],
+    pub counts: [u32; 512],
     pub neighbours: [u64; 64],
 }
 
@@ -32,7 +41,6 @@ pub struct Map {
 pub enum ReadFault {
     // Fewer bytes than a trailer has.
     Short,
-    RowLength,
     Distance,
     // The rows start before the lent bytes.
     Rows,
@@ -72,30 +80,44 @@ pub fn empty() -> Map
 {
     Map {
         k: 0,
+        classes: 0,
         lot: 0,
-        counts: [0u32; 64],
+        counts: [0u32; 512],
         neighbours: [0u64; 64],
     }
 }
 
-// The bytes that a map of k stations fills.
-pub fn stored_length(k: u8) -> usize
-    ensures { λ r. ⌜ r ≡ Stored.storedLength k ⌝ }
+// The bytes of a row with so many counts.
+fn row_length(classes: u8) -> usize
+    ensures { λ r. ⌜ (r ≡ Stored.rowLength classes) × (r ≤ 1028) ⌝ }
 {
-    ROW_LENGTH * (k as usize) + TRAILER_LENGTH
+    SET_LENGTH + COUNT_LENGTH * (classes as usize)
+}
+
+// The bytes that a map of k stations fills.
+pub fn stored_length(classes: u8, k: u8) -> usize
+    ensures { λ r. ⌜ r ≡ Stored.storedLength classes k ⌝ }
+{
+    row_length(classes) * (k as usize) + TRAILER_LENGTH
 }
 
 // What a net on this map is opened with.
 pub fn config(m: Map) -> Config
     ensures { λ r. ⌜ r ≡ Maps.configOf m ⌝ }
 {
-    Config { k: m.k }
+    Config {
+        k: m.k,
+        classes: m.classes,
+    }
 }
 
-// The rules on a map handed over: 3, then 7 to 10.
+// The rules on a map handed over: 2, 3, then 7 to 10.
 pub fn accept(m: Map) -> Verdict
     ensures { λ r. ⌜ Acceptance.verdictNumbers r ≡ Maps.acceptance m ⌝ }
 {
+    if !aggregate::is_class_count(m.classes as u64) {
+        return Verdict::Refused(Fault::Classes);
+    }
     let root = aggregate::root(config(m));
     let sets = m.neighbours;
     topology::accept(root, m.k, &sets)
@@ -105,6 +127,9 @@ pub fn accept(m: Map) -> Verdict
 pub fn links(m: Map) -> LinksAnswer
     ensures { λ r. ⌜ Acceptance.linksNumbers r ≡ Maps.linksIn m ⌝ }
 {
+    if !aggregate::is_class_count(m.classes as u64) {
+        return LinksAnswer::Refused(Fault::Classes);
+    }
     let root = aggregate::root(config(m));
     let sets = m.neighbours;
     topology::links(root, m.k, &sets)
@@ -128,7 +153,7 @@ pub fn read(s: &[u8]) -> MapRead
     let ReadAnswer::Accepted = answer else {
         return reading::unread(answer);
     };
-    reading::read_rows(s, stations as u8, lot)
+    reading::read_rows(s, reading::classes_of(row_length), stations as u8, lot)
 }
 
 // The stored form of m, from the first byte of buf.
@@ -140,7 +165,7 @@ pub fn write(m: Map, buf: &mut [u8]) -> WriteAnswer
     if let Verdict::Refused(fault) = verdict {
         return WriteAnswer::Refused(WriteFault::Unfit(fault));
     }
-    let need = stored_length(m.k);
+    let need = stored_length(m.classes, m.k);
     if buf.len() < need {
         return WriteAnswer::Refused(WriteFault::Buffer(need));
     }

@@ -2,13 +2,21 @@
 ghost use mathlib.Core.Path.{_≡_};
 ghost use Prim.Native.Nat.{_+_, _*_, _^_, _≤_, _<_};
 ghost use lib.ListN.{length};
-ghost use Rattle.linemap.specs.Numbers;
+ghost use Rattle.finite.specs.Numbers;
+ghost use Rattle.linemap.specs.Words;
 ghost use Rattle.linemap.specs.internal.Stages;
 
 fn wide(b: u8) -> u64
     ensures { λ r. ⌜ (r ≡ b) × (r < 256) ⌝ }
 {
     b as u64
+}
+
+// A reference to an array does not say that its words fit; an argument does.
+pub(crate) fn wide_count(count: u32) -> u64
+    ensures { λ r. ⌜ r ≡ count ⌝ }
+{
+    count as u64
 }
 
 // The number in n bytes from `at`.
@@ -42,7 +50,7 @@ pub(crate) fn put(buf: &mut [u8], at: usize, n: usize, x: u64)
 // The n words from `at`, added with wrap at 2^32.
 pub(crate) fn sum_words(s: &[u8], at: usize, n: usize) -> u32
     requires { ⌜ at + 4 * n ≤ length (now s) ⌝ }
-    ensures { λ r. ⌜ r ≡ Numbers.sumWords (now (s .entry)) at n ⌝ }
+    ensures { λ r. ⌜ r ≡ Words.sumWords (now (s .entry)) at n ⌝ }
 {
     let mut sum: u32 = 0;
     let mut i = 0;

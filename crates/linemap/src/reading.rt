@@ -8,8 +8,10 @@ use crate::numbers::sum_words;
 use topology::Fault;
 use topology::Verdict;
 ghost use mathlib.Core.Path.{_≡_};
-ghost use Prim.Native.Nat.{_≤_, _<_};
-ghost use Rattle.linemap.specs.Stored.{rowLength};
+ghost use mathlib.Core.Bool.{true};
+ghost use Prim.Native.Nat.{_+_, _*_, _≤_, _<_};
+ghost use lib.ListN.{length};
+ghost use Rattle.finite.specs.Below.{tabulate};
 ghost use Rattle.linemap.specs.Reading;
 ghost use Rattle.linemap.specs.internal.Stages;
 
@@ -24,8 +26,9 @@ pub(crate) enum TrailerRead {
     Short,
 }
 
+// An enum holds no array: a row's counts are read from the place of its first byte.
 pub(crate) enum RowRead {
-    Row { count: u32, set: u64 },
+    Row { at: usize, set: u64 },
     // It starts before the lent bytes.
     Outside,
 }
@@ -47,26 +50,41 @@ pub(crate) fn read_trailer(s: &[u8]) -> TrailerRead
     }
 }
 
+// One of 12, 16, .. 40.
+fn is_row_length(row_length: u64) -> bool
+    ensures { λ r. ⌜ r ≡ Reading.isRowLength «row_length» ⌝ }
+{
+    (row_length % 4 == 0) & (12 <= row_length) & (row_length <= 40)
+}
+
+// How many counts a row of such a length has.
+pub(crate) fn classes_of(row_length: u64) -> u8
+    requires { ⌜ Reading.isRowLength «row_length» ≡ true ⌝ }
+    ensures { λ r. ⌜ r ≡ Reading.classesOf «row_length» ⌝ }
+{
+    ((row_length - 8) / 4) as u8
+}
+
 // The rules 2 to 4, on the trailer's fields.
 pub(crate) fn judge_trailer(stations: u64, row_length: u64, distance: u64) -> ReadAnswer
     ensures { λ r. ⌜ r ≡ Stages.trailerAnswer stations «row_length» distance ⌝ }
 {
-    if row_length != crate::ROW_LENGTH as u64 {
-        return ReadAnswer::Refused(ReadFault::RowLength);
+    if !is_row_length(row_length) {
+        return ReadAnswer::Refused(ReadFault::Unfit(Fault::Classes));
     }
     if !bitset::is_station_count(stations) {
         return ReadAnswer::Refused(ReadFault::Unfit(Fault::Stations));
     }
-    if distance != crate::ROW_LENGTH as u64 * stations {
+    if distance != row_length * stations {
         return ReadAnswer::Refused(ReadFault::Distance);
     }
     ReadAnswer::Accepted
 }
 
-// The row whose first byte stands so many bytes before the end.
-fn read_row(s: &[u8], back: usize) -> RowRead
-    requires { ⌜ rowLength ≤ back ⌝ }
-    ensures { λ r. ⌜ r ≡ Stages.rowOf (now (s .entry)) back ⌝ }
+// The row of so many bytes whose first stands so far before the end.
+fn read_row(s: &[u8], width: usize, back: usize) -> RowRead
+    requires { ⌜ (12 ≤ width) × (width ≤ back) ⌝ }
+    ensures { λ r. ⌜ r ≡ Stages.rowOf (now (s .entry)) width back ⌝ }
 {
     let n = s.len();
     if n < back {
@@ -74,8 +92,22 @@ fn read_row(s: &[u8], back: usize) -> RowRead
     }
     let at = n - back;
     RowRead::Row {
-        count: get(s, at, 4) as u32,
-        set: get(s, at + 4, 8),
+        at,
+        set: get(s, at + (width - crate::SET_LENGTH), 8),
+    }
+}
+
+// The counts of station i, whose row starts at `at`, into their places.
+fn read_counts(s: &[u8], at: usize, classes: usize, counts: &mut [u32; 512], i: usize)
+    requires { ⌜ (at + 4 * classes ≤ length (now s)) × (classes ≤ 8) × (i < 64) × (length (now counts) ≡ 512) ⌝ }
+    ensures { λ _. ⌜ now (counts .exit) ≡ Stages.put (now (counts .entry)) (8 * i) (tabulate classes (Reading.countIn (now (s .entry)) at)) ⌝ }
+{
+    let first = crate::PLACES * i;
+    let mut j: usize = 0;
+    while j < classes {
+        let count = get(s, at + crate::COUNT_LENGTH * j, 4) as u32;
+        counts[first + j] = count;
+        j += 1;
     }
 }
 
@@ -104,21 +136,22 @@ fn judge(m: Map) -> MapRead
 }
 
 // The map of the k rows before the trailer: the rules 5 to 10.
-pub(crate) fn read_rows(s: &[u8], k: u8, lot: u32) -> MapRead
-    requires { ⌜ (0 < k) × (k ≤ 64) ⌝ }
-    ensures { λ r. ⌜ Reading.readOutcomeOf r ≡ Stages.rowsOutcome (now (s .entry)) k lot ⌝ }
+pub(crate) fn read_rows(s: &[u8], classes: u8, k: u8, lot: u32) -> MapRead
+    requires { ⌜ (1 ≤ classes) × (classes ≤ 8) × (0 < k) × (k ≤ 64) ⌝ }
+    ensures { λ r. ⌜ Reading.readOutcomeOf r ≡ Stages.rowsOutcome (now (s .entry)) classes k lot ⌝ }
 {
-    let need = crate::stored_length(k);
+    let need = crate::stored_length(classes, k);
+    let width = crate::row_length(classes);
     let rows = k as usize;
-    let mut counts = [0u32; 64];
+    let mut counts = [0u32; 512];
     let mut neighbours = [0u64; 64];
     let mut i: usize = 0;
     while i < rows {
-        let row = read_row(s, need - crate::ROW_LENGTH * i);
-        let RowRead::Row { count, set } = row else {
+        let row = read_row(s, width, need - width * i);
+        let RowRead::Row { at, set } = row else {
             return unread(ReadAnswer::Refused(ReadFault::Rows));
         };
-        counts[i] = count;
+        read_counts(s, at, classes as usize, &mut counts, i);
         neighbours[i] = set;
         i += 1;
     }
@@ -128,6 +161,7 @@ pub(crate) fn read_rows(s: &[u8], k: u8, lot: u32) -> MapRead
     }
     judge(Map {
         k,
+        classes,
         lot,
         counts,
         neighbours,

@@ -2,45 +2,62 @@
 use crate::Map;
 use crate::numbers::put;
 use crate::numbers::sum_words;
+use crate::numbers::wide_count;
 ghost use mathlib.Core.Path.{_≡_};
 ghost use mathlib.Core.List.{_++_};
-ghost use Prim.Native.Nat.{_+_, _*_, _≤_};
+ghost use Prim.Native.Nat.{_+_, _*_, _≤_, _<_};
 ghost use lib.ListN.{length};
-ghost use Rattle.finite.specs.Below;
-ghost use Rattle.linemap.specs.Numbers;
-ghost use Rattle.linemap.specs.Stored.{rowLength, storedLength, rowBytes, trailerBytes, checkWord, storedOf};
+ghost use Rattle.finite.specs.Below.{each};
+ghost use Rattle.finite.specs.Numbers.{bytes};
+ghost use Rattle.linemap.specs.Stored.{rowLength, trailerLength, storedLength, countBytes, rowBytes, trailerBytes, checkWord, storedOf};
 ghost use Rattle.linemap.specs.internal.Stages;
 
-fn put_row(buf: &mut [u8], at: usize, count: u32, set: u64)
-    requires { ⌜ at + rowLength ≤ length (now buf) ⌝ }
-    ensures { λ _. ⌜ now (buf .exit) ≡ Stages.put (now (buf .entry)) at (Numbers.bytes 4 count ++ Numbers.bytes 8 set) ⌝ }
+// The counts of station i, from `at`.
+fn put_counts(buf: &mut [u8], at: usize, classes: usize, counts: &[u32; 512], i: usize)
+    requires { ⌜ (at + 4 * classes ≤ length (now buf)) × (classes ≤ 8) × (i < 64) ⌝ }
+    ensures { λ _. ⌜ now (buf .exit) ≡ Stages.put (now (buf .entry)) at (countBytes classes (now (counts .entry)) i) ⌝ }
 {
-    put(buf, at, 4, count as u64);
-    put(buf, at + 4, 8, set);
+    let first = crate::PLACES * i;
+    let mut j: usize = 0;
+    while j < classes {
+        let count = wide_count(counts[first + j]);
+        put(buf, at + crate::COUNT_LENGTH * j, 4, count);
+        j += 1;
+    }
+}
+
+fn put_row(buf: &mut [u8], at: usize, classes: usize, counts: &[u32; 512], i: usize, set: u64)
+    requires { ⌜ (at + rowLength classes ≤ length (now buf)) × (classes ≤ 8) × (i < 64) ⌝ }
+    ensures { λ _. ⌜ now (buf .exit) ≡ Stages.put (now (buf .entry)) at (countBytes classes (now (counts .entry)) i ++ bytes 8 set) ⌝ }
+{
+    put_counts(buf, at, classes, counts, i);
+    put(buf, at + crate::COUNT_LENGTH * classes, 8, set);
 }
 
 fn put_rows(m: Map, buf: &mut [u8])
-    requires { ⌜ (m .k ≤ 64) × (rowLength * m .k ≤ length (now buf)) ⌝ }
-    ensures { λ _. ⌜ now (buf .exit) ≡ Stages.put (now (buf .entry)) 0 (Below.each (rowBytes (m .counts) (m .neighbours)) (m .k)) ⌝ }
+    requires { ⌜ (m .classes ≤ 8) × (m .k ≤ 64) × (rowLength (m .classes) * m .k ≤ length (now buf)) ⌝ }
+    ensures { λ _. ⌜ now (buf .exit) ≡ Stages.put (now (buf .entry)) 0 (each (rowBytes (m .classes) (m .counts) (m .neighbours)) (m .k)) ⌝ }
 {
     let k = m.k as usize;
+    let classes = m.classes as usize;
+    let width = crate::row_length(m.classes);
     let counts = m.counts;
     let neighbours = m.neighbours;
     let mut i: usize = 0;
     while i < k {
-        put_row(buf, crate::ROW_LENGTH * i, counts[i], neighbours[i]);
+        put_row(buf, width * i, classes, &counts, i, neighbours[i]);
         i += 1;
     }
 }
 
 // The trailer, but for the check word.
-fn put_trailer(buf: &mut [u8], k: usize, lot: u32)
-    requires { ⌜ (k ≤ 64) × (storedLength k ≤ length (now buf)) ⌝ }
-    ensures { λ _. ⌜ now (buf .exit) ≡ Stages.put (now (buf .entry)) (rowLength * k) (trailerBytes k lot) ⌝ }
+fn put_trailer(buf: &mut [u8], width: usize, k: usize, lot: u32)
+    requires { ⌜ width * k + trailerLength ≤ length (now buf) ⌝ }
+    ensures { λ _. ⌜ now (buf .exit) ≡ Stages.put (now (buf .entry)) (width * k) (trailerBytes width k lot) ⌝ }
 {
-    let t = crate::ROW_LENGTH * k;
+    let t = width * k;
     put(buf, t, 2, k as u64);
-    put(buf, t + 2, 2, crate::ROW_LENGTH as u64);
+    put(buf, t + 2, 2, width as u64);
     put(buf, t + 4, 4, t as u64);
     put(buf, t + 8, 4, lot as u64);
 }
@@ -54,13 +71,14 @@ fn check_word(sum: u32) -> u64
 
 // The stored form of m, from the first byte of buf.
 pub(crate) fn put_map(m: Map, buf: &mut [u8])
-    requires { ⌜ (m .k ≤ 64) × (storedLength (m .k) ≤ length (now buf)) ⌝ }
+    requires { ⌜ (m .classes ≤ 8) × (m .k ≤ 64) × (storedLength (m .classes) (m .k) ≤ length (now buf)) ⌝ }
     ensures { λ _. ⌜ now (buf .exit) ≡ Stages.put (now (buf .entry)) 0 (storedOf m) ⌝ }
 {
     let k = m.k as usize;
+    let width = crate::row_length(m.classes);
     put_rows(m, buf);
-    put_trailer(buf, k, m.lot);
-    let need = crate::stored_length(m.k);
+    put_trailer(buf, width, k, m.lot);
+    let need = crate::stored_length(m.classes, m.k);
     let sum = sum_words(buf, 0, need / 4 - 1);
     put(buf, need - 4, 4, check_word(sum));
 }

@@ -1,9 +1,10 @@
--- What each mailbox holds after one is written and after starts are posted, of 8,320 words. Assumes nothing.
-use mathlib.Core.Path.{_≡_, refl, _∙_}
+-- What each mailbox holds, and what an answer in it brings, after one is written and after starts are posted, of 36,992 words. Assumes
+-- nothing.
+use mathlib.Core.Path.{_≡_, refl, ap₂, _∙_, fun-ext}
 use mathlib.Core.Bool.{Bool, true, false, not, _&&_, _||_, cond, and-false}
 use mathlib.Core.List.{List}
-use Prim.Native.Nat.{ℕ, _+_, _*_, _<_, _≤_}
-use native.Mathlib.Nat.{mod-eq-of-lt}
+use Prim.Native.Nat.{ℕ, zero, suc, _+_, _<_, _≤_}
+use native.Mathlib.Nat.{not-suc-le-zero}
 use native.Mathlib.Omega.{arith}
 use lib.ListN.{length, getD, set, length-set}
 use lib.Seq.{getD-set-same, getD-set-other}
@@ -12,12 +13,15 @@ use borrow.Author.Tests.{ne-eqb}
 use Rattle.finite.proofs.Cases.{by-bool, by-eq, eqb-self}
 use Rattle.bitset.specs.Set.{member}
 use Rattle.bitset.proofs.Unions.{member-union, member-minus, member-put}
+use Rattle.aggregate.specs.declared.Config.{Config}
 use Rattle.aggregate.specs.declared.Aggregate.{Aggregate}
-use Rattle.aggregate.specs.Aggregate.{sumOf, missingOf, fromWords, missingWord}
+use Rattle.aggregate.specs.Aggregate.{cell, clipped, fromWords, missingWord}
+use Rattle.aggregate.proofs.Words.{words-ext, FitsWord, words-again}
 use Rattle.mail.specs.declared.Message.the-variants.{Start, Answer}
 use Rattle.mail.specs.declared.Mailbox.{Mailbox}
 use Rattle.mail.specs.declared.Mailbox.the-variants.{Empty, Full}
-use Rattle.mail.specs.Mail.{startsOf, answersOf, missingPlace, sumPlace, boxAt, withSets, withWaiting, withAnswer, withMessage, withBox, startsPosted}
+use Rattle.mail.specs.Mail.{startsOf, answersOf, missingPlace, sumPlace, boxAt, broughtAt, withSets, withWaiting, withSums, withAnswer}
+use Rattle.mail.specs.Mail.{withMessage, withBox, startsPosted}
 
 -- ---- the lengths stay
 length-sets : (boxes : List ℕ) (s a b : ℕ) → length (withSets boxes s a b) ≡ length boxes
@@ -27,18 +31,50 @@ length-waiting : (boxes : List ℕ) (s r : ℕ) (a b : Bool) → length (withWai
 unfolding withWaiting
 length-waiting boxes s r a b = length-sets boxes s _ _
 
-pub length-box : (boxes : List ℕ) (s r : ℕ) (b : Mailbox) → length (withBox boxes s r b) ≡ length boxes
+length-sums : (boxes : List ℕ) (s r : ℕ) (v : Aggregate) (n : ℕ) → length (withSums boxes s r v n) ≡ length boxes
+unfolding withSums
+length-sums boxes s r v zero = refl
+length-sums boxes s r v (suc n) = length-set (withSums boxes s r v n) (sumPlace n s r) (cell v n .sum) ∙ length-sums boxes s r v n
+
+pub length-box : (boxes : List ℕ) (s r : ℕ) (b : Mailbox) (v : Aggregate) → length (withBox boxes s r b v) ≡ length boxes
 unfolding withBox withMessage withAnswer
-length-box boxes s r Empty = length-waiting boxes s r false false
-length-box boxes s r (Full Start) = length-waiting boxes s r true false
-length-box boxes s r (Full (Answer v)) =
-    length-set (set (withWaiting boxes s r false true) (missingPlace s r) (missingWord v)) (sumPlace s r) (sumOf v)
+length-box boxes s r Empty v = length-waiting boxes s r false false
+length-box boxes s r (Full Start) v = length-waiting boxes s r true false
+length-box boxes s r (Full Answer) v =
+    length-sums (set (withWaiting boxes s r false true) (missingPlace s r) (missingWord v)) s r v 8
     ∙ length-set (withWaiting boxes s r false true) (missingPlace s r) (missingWord v)
     ∙ length-waiting boxes s r false true
 
 pub length-starts : (boxes : List ℕ) (s stations : ℕ) → length (startsPosted boxes s stations) ≡ length boxes
 unfolding startsPosted
 length-starts boxes s stations = length-sets boxes s _ _
+
+-- ---- the words of an answer
+module _ (boxes : List ℕ) (s r : ℕ) (v : Aggregate) where
+  -- a word that is no sum of it
+  sums-other : (i : ℕ) → ((j : ℕ) → i ≡ sumPlace j s r → ⊥) → (n : ℕ) → getD (withSums boxes s r v n) i 0 ≡ getD boxes i 0
+  unfolding withSums
+  sums-other i other zero = refl
+  sums-other i other (suc n) = getD-set-other (withSums boxes s r v n) (sumPlace n s r) i (cell v n .sum) 0 (other n) ∙ sums-other i other n
+
+  -- its sum of class j
+  sums-same : length boxes ≡ 36992 → s < 64 → r < 64 → (n j : ℕ) → j < n → n ≤ 8 → getD (withSums boxes s r v n) (sumPlace j s r) 0 ≡ cell v j .sum
+  unfolding withSums
+  sums-same long hs hr zero j l m = absurd (not-suc-le-zero l)
+  sums-same long hs hr (suc n) j l m =
+      by-eq j n
+      (λ (e : j ≡ n). rw e (getD-set-same (withSums boxes s r v n) (sumPlace n s r) (cell v n .sum) 0 (omega (arith, length-sums boxes s r v n))))
+      (λ q.
+      getD-set-other (withSums boxes s r v n) (sumPlace n s r) (sumPlace j s r) (cell v n .sum) 0 (λ e. q (omega arith))
+      ∙ sums-same long hs hr n j (omega arith) (omega arith))
+
+-- a word that is none of it
+answer-other : (boxes : List ℕ) (s r : ℕ) (v : Aggregate) (i : ℕ) → (i ≡ missingPlace s r → ⊥) → ((j : ℕ) → i ≡ sumPlace j s r → ⊥)
+    → getD (withAnswer boxes s r v) i 0 ≡ getD (withWaiting boxes s r false true) i 0
+unfolding withAnswer
+answer-other boxes s r v i other others =
+    sums-other (set (withWaiting boxes s r false true) (missingPlace s r) (missingWord v)) s r v i others 8
+    ∙ getD-set-other (withWaiting boxes s r false true) (missingPlace s r) i (missingWord v) 0 other
 
 -- ---- the sets of other senders stay: the words below 128 but two
 module _ (boxes : List ℕ) (s i : ℕ) (low : i < 128) (n : i ≡ s → ⊥) (m : i ≡ 64 + s → ⊥) where
@@ -49,35 +85,52 @@ module _ (boxes : List ℕ) (s i : ℕ) (low : i < 128) (n : i ≡ s → ⊥) (m
   unfolding withWaiting
   word-waiting r a b = word-sets _ _
 
-  pub word-box : (r : ℕ) (b : Mailbox) → getD (withBox boxes s r b) i 0 ≡ getD boxes i 0
-  unfolding withBox withMessage withAnswer
-  word-box r Empty = word-waiting r false false
-  word-box r (Full Start) = word-waiting r true false
-  word-box r (Full (Answer v)) =
-      getD-set-other (set (withWaiting boxes s r false true) (missingPlace s r) (missingWord v)) (sumPlace s r) i (sumOf v) 0 (λ e. omega arith)
-      ∙ getD-set-other (withWaiting boxes s r false true) (missingPlace s r) i (missingWord v) 0 (λ e. omega arith)
-      ∙ word-waiting r false true
+  pub word-box : (r : ℕ) (b : Mailbox) (v : Aggregate) → getD (withBox boxes s r b v) i 0 ≡ getD boxes i 0
+  unfolding withBox withMessage
+  word-box r Empty v = word-waiting r false false
+  word-box r (Full Start) v = word-waiting r true false
+  word-box r (Full Answer) v = answer-other boxes s r v i (λ e. omega arith) (λ j e. omega arith) ∙ word-waiting r false true
 
   pub word-starts : (stations : ℕ) → getD (startsPosted boxes s stations) i 0 ≡ getD boxes i 0
   unfolding startsPosted
   word-starts stations = word-sets _ _
 
--- what is written is read again: a missing number is a byte, as in every aggregate that code holds
-abbrev pub FitsWord : Mailbox → Type 0
-FitsWord Empty = Unit {0}
-FitsWord (Full Start) = Unit {0}
-FitsWord (Full (Answer v)) = missingOf v < 256
+-- ---- what an answer brings stays where its words do
+brought-alike : (t : Config) (l m : List ℕ) (x y : ℕ) → ((j : ℕ) → getD l (sumPlace j x y) 0 ≡ getD m (sumPlace j x y) 0)
+    → getD l (missingPlace x y) 0 ≡ getD m (missingPlace x y) 0 → broughtAt t l x y ≡ broughtAt t m x y
+unfolding broughtAt
+brought-alike t l m x y sums missing = ap₂ (fromWords t) (fun-ext sums) missing
 
--- what an answer in a mailbox brings
-abbrev pub brought : List ℕ → ℕ → ℕ → Aggregate
-brought boxes x y = fromWords (getD boxes (sumPlace x y) 0) (getD boxes (missingPlace x y) 0)
+module _ (t : Config) (boxes : List ℕ) (s : ℕ) (hs : s < 64) (x y : ℕ) where
+  -- the words past the sets stay
+  word-past : (a b i : ℕ) → 128 ≤ i → getD (withSets boxes s a b) i 0 ≡ getD boxes i 0
+  word-past a b i past =
+      getD-set-other (set boxes s a) (64 + s) i b 0 (λ e. omega arith)
+      ∙ getD-set-other boxes s i a 0 (λ e. omega arith)
 
--- what a mailbox is, of its two tests and what an answer in it brings
-abbrev held : Bool → Bool → Aggregate → Mailbox
-held start answer v = cond start (Full Start) (cond answer (Full (Answer v)) Empty)
+  brought-sets : (a b : ℕ) → broughtAt t (withSets boxes s a b) x y ≡ broughtAt t boxes x y
+  brought-sets a b =
+      brought-alike t (withSets boxes s a b) boxes x y (λ j. word-past a b (sumPlace j x y) (omega arith))
+      (word-past a b (missingPlace x y) (omega arith))
+
+  pub brought-starts : (stations : ℕ) → broughtAt t (startsPosted boxes s stations) x y ≡ broughtAt t boxes x y
+  unfolding startsPosted
+  brought-starts stations = brought-sets _ _
+
+  brought-waiting : (r : ℕ) (start answer : Bool) → broughtAt t (withWaiting boxes s r start answer) x y ≡ broughtAt t boxes x y
+  unfolding withWaiting
+  brought-waiting r start answer = brought-sets _ _
+
+  pub brought-emptied : (r : ℕ) (v : Aggregate) → broughtAt t (withBox boxes s r Empty v) x y ≡ broughtAt t boxes x y
+  unfolding withBox
+  brought-emptied r v = brought-waiting r false false
+
+-- what a mailbox is, of its two tests
+abbrev held : Bool → Bool → Mailbox
+held start answer = cond start (Full Start) (cond answer (Full Answer) Empty)
 
 -- ---- the words of a sender x after those of s are written
-module _ (boxes : List ℕ) (long : length boxes ≡ 8320) (s : ℕ) (hs : s < 64) (x : ℕ) (hx : x < 64) where
+module _ (boxes : List ℕ) (long : length boxes ≡ 36992) (s : ℕ) (hs : s < 64) (x : ℕ) (hx : x < 64) where
   module _ (a b : ℕ) where
     starts-after : startsOf (withSets boxes s a b) x ≡ cond (eqb x s) a (startsOf boxes x)
     starts-after =
@@ -93,19 +146,10 @@ module _ (boxes : List ℕ) (long : length boxes ≡ 8320) (s : ℕ) (hs : s < 6
         (λ n. rw (ne-eqb x s n)
         (getD-set-other (set boxes s a) (64 + s) (64 + x) b 0 (λ e. n (omega arith)) ∙ getD-set-other boxes s (64 + x) a 0 (λ e. omega arith)))
 
-    -- the words past the sets stay
-    word-after : (i : ℕ) → 128 ≤ i → getD (withSets boxes s a b) i 0 ≡ getD boxes i 0
-    word-after i past =
-        getD-set-other (set boxes s a) (64 + s) i b 0 (λ e. omega arith)
-        ∙ getD-set-other boxes s i a 0 (λ e. omega arith)
-
     -- a mailbox after other sets are written for a sender
-    sets-after : (y : ℕ)
-        → boxAt (withSets boxes s a b) x y ≡ cond (eqb x s) (held (member y a) (member y b) (brought boxes x y)) (boxAt boxes x y)
+    sets-after : (y : ℕ) → boxAt (withSets boxes s a b) x y ≡ cond (eqb x s) (held (member y a) (member y b)) (boxAt boxes x y)
     unfolding boxAt
-    sets-after y =
-        rw (starts-after, answers-after, word-after (sumPlace x y) (omega arith), word-after (missingPlace x y) (omega arith))
-        (by-bool (eqb x s) (λ t. rw t) (λ f. rw f))
+    sets-after y = rw (starts-after, answers-after) (by-bool (eqb x s) (λ t. rw t) (λ f. rw f))
 
   -- every mailbox after a station posted its starts: those from it to the stations in the set hold one
   pub box-after-starts : (stations y : ℕ)
@@ -115,20 +159,20 @@ module _ (boxes : List ℕ) (long : length boxes ≡ 8320) (s : ℕ) (hs : s < 6
       sets-after _ _ y
       ∙ by-eq x s
       (λ (e : x ≡ s). rw (e, eqb-self s, member-union y (startsOf boxes s) stations, member-minus y (answersOf boxes s) stations)
-      (posts (member y (startsOf boxes s)) (member y (answersOf boxes s)) (member y stations) (brought boxes s y)))
+      (posts (member y (startsOf boxes s)) (member y (answersOf boxes s)) (member y stations)))
       (λ n. rw (ne-eqb x s n))
     where
-      posts : (start answer m : Bool) (v : Aggregate) → held (start || m) (answer && not m) v ≡ cond m (Full Start) (held start answer v)
-      posts true answer true v = refl
-      posts true answer false v = refl
-      posts false answer true v = refl
-      posts false true false v = refl
-      posts false false false v = refl
+      posts : (start answer m : Bool) → held (start || m) (answer && not m) ≡ cond m (Full Start) (held start answer)
+      posts true answer true = refl
+      posts true answer false = refl
+      posts false answer true = refl
+      posts false true false = refl
+      posts false false false = refl
 
   module _ (r : ℕ) (hr : r < 64) (y : ℕ) (hy : y < 64) where
     -- a mailbox of which is told what waits in it: that one by what is told, or as it was
     box-after-waiting : (start answer : Bool)
-        → boxAt (withWaiting boxes s r start answer) x y ≡ cond (eqb x s && eqb y r) (held start answer (brought boxes x y)) (boxAt boxes x y)
+        → boxAt (withWaiting boxes s r start answer) x y ≡ cond (eqb x s && eqb y r) (held start answer) (boxAt boxes x y)
     unfolding withWaiting boxAt
     box-after-waiting start answer =
         sets-after _ _ y
@@ -137,52 +181,49 @@ module _ (boxes : List ℕ) (long : length boxes ≡ 8320) (s : ℕ) (hs : s < 6
         (by-bool (eqb y r) (λ t. rw t) (λ f. rw f)))
         (λ n. rw (ne-eqb x s n))
 
-    -- a word for each mailbox, from `base` on: that of one is written
-    plane-after : (base : ℕ) (l : List ℕ) → base + 4096 ≤ length l → (v : ℕ)
-        → getD (set l (base + s * 64 + r) v) (base + x * 64 + y) 0 ≡ cond (eqb x s && eqb y r) v (getD l (base + x * 64 + y) 0)
-    plane-after base l enough v =
-        by-eq x s
-        (λ (e : x ≡ s). by-eq y r
-        (λ (f : y ≡ r). rw (e, f, eqb-self s, eqb-self r) (getD-set-same l (base + s * 64 + r) v 0 (omega arith)))
-        (λ n. rw (ne-eqb y r n, and-false (eqb x s)) (getD-set-other l (base + s * 64 + r) (base + x * 64 + y) v 0 (λ q. n (omega arith)))))
-        (λ n. rw (ne-eqb x s n) (getD-set-other l (base + s * 64 + r) (base + x * 64 + y) v 0 (λ q. n (omega arith))))
-
-    -- a mailbox after the words of an answer are written: one that holds an answer there holds what they bring
-    box-after-words : (l : List ℕ) → length l ≡ 8320 → (m n : ℕ)
-        → boxAt (set (set l (missingPlace s r) m) (sumPlace s r) n) x y
-        ≡ held (member y (startsOf l x)) (member y (answersOf l x)) (cond (eqb x s && eqb y r) (fromWords n m) (brought l x y))
+    -- what an answer brings is beside the sets
+    box-after-answer : (v : Aggregate) → boxAt (withAnswer boxes s r v) x y ≡ boxAt (withWaiting boxes s r false true) x y
     unfolding boxAt
-    box-after-words l same m n =
-        let l′ = set l (missingPlace s r) m in
-        let sum = plane-after 4224 l′ (omega (arith, length-set l (missingPlace s r) m)) n in
-        let missing = plane-after 128 l (omega arith) m in
+    box-after-answer v =
         rw (
-          getD-set-other l′ (sumPlace s r) x n 0 (λ e. omega arith),
-          getD-set-other l′ (sumPlace s r) (64 + x) n 0 (λ e. omega arith),
-          getD-set-other l′ (sumPlace s r) (missingPlace x y) n 0 (λ e. omega arith),
-          sum,
-          getD-set-other l (missingPlace s r) x m 0 (λ e. omega arith),
-          getD-set-other l (missingPlace s r) (64 + x) m 0 (λ e. omega arith),
-          getD-set-other l (missingPlace s r) (sumPlace x y) m 0 (λ e. omega arith),
-          missing,
+          answer-other boxes s r v x (λ e. omega arith) (λ j e. omega arith),
+          answer-other boxes s r v (64 + x) (λ e. omega arith) (λ j e. omega arith),
         )
-        (by-bool (eqb x s && eqb y r) (λ t. rw t) (λ f. rw f))
-
-    -- an answer is what its words tell, with what it brings
-    box-after-answer : (v : Aggregate) → missingOf v < 256
-        → boxAt (withAnswer boxes s r v) x y ≡ cond (eqb x s && eqb y r) (Full (Answer v)) (boxAt boxes x y)
-    unfolding withAnswer withWaiting boxAt
-    box-after-answer v fits =
-        box-after-words (withWaiting boxes s r false true) (length-waiting boxes s r false true ∙ long) (missingWord v) (sumOf v)
-        ∙ rw (mod-eq-of-lt fits, starts-after _ _, answers-after _ _, word-after _ _ (sumPlace x y) (omega arith), word-after _ _ (missingPlace x y) (omega arith))
-        (by-eq x s
-        (λ (e : x ≡ s). rw (e, eqb-self s, member-put r false (startsOf boxes s) y hr, member-put r true (answersOf boxes s) y hr)
-        (by-bool (eqb y r) (λ t. rw t) (λ f. rw f)))
-        (λ n. rw (ne-eqb x s n)))
 
     -- every mailbox after one is written: that one, or as it was
-    pub box-after : (b : Mailbox) → FitsWord b → boxAt (withBox boxes s r b) x y ≡ cond (eqb x s && eqb y r) b (boxAt boxes x y)
+    pub box-after : (b : Mailbox) (v : Aggregate) → boxAt (withBox boxes s r b v) x y ≡ cond (eqb x s && eqb y r) b (boxAt boxes x y)
     unfolding withBox withMessage
-    box-after Empty fits = box-after-waiting false false
-    box-after (Full Start) fits = box-after-waiting true false
-    box-after (Full (Answer v)) fits = box-after-answer v fits
+    box-after Empty v = box-after-waiting false false
+    box-after (Full Start) v = box-after-waiting true false
+    box-after (Full Answer) v = box-after-answer v ∙ box-after-waiting false true
+
+    module _ (t : Config) where
+      -- what an answer brings after it is written
+      brought-same : (v : Aggregate) → broughtAt t (withAnswer boxes s r v) s r ≡ fromWords t (λ j. cell v j .sum) (missingWord v)
+      unfolding broughtAt withAnswer
+      brought-same v =
+          let l = withWaiting boxes s r false true in
+          let m = set l (missingPlace s r) (missingWord v) in
+          let enough : length m ≡ 36992 = length-set l (missingPlace s r) (missingWord v) ∙ length-waiting boxes s r false true ∙ long in
+          let missing = sums-other m s r v (missingPlace s r) (λ j e. omega arith) 8
+          ∙ getD-set-same l (missingPlace s r) (missingWord v) 0 (omega (arith, length-waiting boxes s r false true)) in
+          rw missing (words-ext t _ _ (missingWord v) (λ j u. sums-same m s r v enough hs hr 8 j (omega arith) (omega arith)))
+
+      -- and in every other mailbox
+      brought-other : (v : Aggregate) → (x ≡ s → y ≡ r → ⊥) → broughtAt t (withAnswer boxes s r v) x y ≡ broughtAt t boxes x y
+      brought-other v apart =
+          brought-alike t (withAnswer boxes s r v) (withWaiting boxes s r false true) x y
+          (λ j. answer-other boxes s r v (sumPlace j x y) (λ e. omega arith) (λ i e. apart (omega arith) (omega arith)))
+          (answer-other boxes s r v (missingPlace x y) (λ e. apart (omega arith) (omega arith)) (λ i e. omega arith))
+          ∙ brought-waiting t boxes s hs x y r false true
+
+      -- what every answer brings after one is posted with what a station gives: that one this, or as it was
+      pub brought-posted : (a : Aggregate) → FitsWord t a
+          → broughtAt t (withBox boxes s r (Full Answer) (clipped t a)) x y ≡ cond (eqb x s && eqb y r) (clipped t a) (broughtAt t boxes x y)
+      unfolding withBox withMessage
+      brought-posted a fits =
+          by-eq x s
+          (λ (e : x ≡ s). by-eq y r
+          (λ (f : y ≡ r). rw (e, f, eqb-self s, eqb-self r) (brought-same (clipped t a) ∙ words-again t a fits))
+          (λ n. rw (ne-eqb y r n, and-false (eqb x s)) (brought-other (clipped t a) (λ _ f. n f))))
+          (λ n. rw (ne-eqb x s n) (brought-other (clipped t a) (λ e _. n e)))

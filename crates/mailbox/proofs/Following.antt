@@ -16,10 +16,10 @@ use Rattle.bitset.proofs.Laws.{without-le}
 use Rattle.bitset.proofs.Selected.{bit-lt}
 use Rattle.bitset.proofs.Unions.{union-lt}
 use Rattle.aggregate.specs.declared.Config.{Config}
-use Rattle.aggregate.specs.Aggregate.{rootOf}
+use Rattle.aggregate.specs.Aggregate.{rootOf, nothing}
 use Rattle.station.specs.declared.Station.{Station}
 use Rattle.station.specs.Events.{asleep}
-use Rattle.stations.specs.Stations.{blank}
+use Rattle.stations.specs.Stations.{noStation}
 use Rattle.schedule.specs.declared.Step.{Step}
 use Rattle.schedule.specs.declared.rows.Sizes.{Sizes}
 use Rattle.schedule.specs.internal.Rows.{others}
@@ -53,16 +53,16 @@ module _ (t : Config) (boxes : List ℕ) (s : Step) (receiver : Station) (i : �
   word-after : getD (boxesAfter boxes (s .sender) (s .receiver) receiver) i 0 ≡ getD boxes i 0
   unfolding boxesAfter
   word-after =
-      let emptied = word-box boxes (s .sender) i low n m (s .receiver) Empty in
+      let emptied = word-box boxes (s .sender) i low n m (s .receiver) Empty nothing in
       by-bool (eqb (receiver .state) asleep)
-      (λ e. rw e (word-starts (withBox boxes (s .sender) (s .receiver) Empty) (s .receiver) i low n′ m′ _ ∙ emptied))
+      (λ e. rw e (word-starts (withBox boxes (s .sender) (s .receiver) Empty nothing) (s .receiver) i low n′ m′ _ ∙ emptied))
       (λ e. rw e emptied)
 
   word-settled : (l : List ℕ) (u : Station) → getD (boxesSettled t l (s .receiver) u) i 0 ≡ getD l i 0
   unfolding boxesSettled
   word-settled l u =
       by-bool (mustAnswer t (s .receiver) u)
-      (λ e. rw e (word-box l (s .receiver) i low n′ m′ (u .parent) _))
+      (λ e. rw e (word-box l (s .receiver) i low n′ m′ (u .parent) _ _))
       (λ e. rw e)
 
   pub word-made : getD (boxesMade t boxes s receiver) i 0 ≡ getD boxes i 0
@@ -85,7 +85,7 @@ module _ (t : Config) (takers : Takers) (stations : List Station) (boxes : List 
       let answers = word-made t boxes s receiver (64 + x) (omega arith) (λ e. omega arith) (λ e. n (omega arith)) (λ e. omega arith) (λ e. m (omega arith)) in
       by-eq x (rootOf t)
       (λ (e : x ≡ rootOf t).
-      let root : getD stations′ (rootOf t) blank ≡ getD stations (rootOf t) blank = getD-set-other stations (s .receiver) (rootOf t) next blank (λ q. m (e ∙ q)) in
+      let root : getD stations′ (rootOf t) noStation ≡ getD stations (rootOf t) noStation = getD-set-other stations (s .receiver) (rootOf t) next noStation (λ q. m (e ∙ q)) in
       rw (starts, answers, root))
       (λ q. rw (starts, answers, ne-eqb x (rootOf t) q))
 

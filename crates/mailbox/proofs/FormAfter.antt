@@ -1,7 +1,7 @@
 -- What an allowed step leaves of the form: the receiver's can be broken only by what it has gathered, and a mailbox's only by the same, posted
 -- as an answer. Assumes nothing.
 use mathlib.Core.Path.{_≡_, refl, sym, _∙_, ap, subst}
-use mathlib.Core.Bool.{Bool, true, false, _&&_, _||_}
+use mathlib.Core.Bool.{Bool, true, false, not, _&&_, _||_}
 use mathlib.Core.List.{List}
 use Prim.Native.Nat.{ℕ, _≤_, _<_}
 use native.Mathlib.Omega.{arith}
@@ -11,10 +11,12 @@ use lib.Dec.{eqb, ltb}
 use borrow.Author.Tests.{eqb-false, eq-eqb, ne-eqb, ltb-true, ltb-false}
 use Rattle.finite.proofs.Cases.{by-bool, by-eq, clash, or-right}
 use Rattle.finite.proofs.Below.{all-below}
-use Rattle.bitset.specs.Set.{member, without}
+use Rattle.bitset.specs.Set.{member}
 use Rattle.aggregate.specs.declared.Config.{Config}
-use Rattle.aggregate.specs.Aggregate.{bounded}
-use Rattle.aggregate.proofs.Laws.{bounded-parts}
+use Rattle.aggregate.specs.declared.Aggregate.{Aggregate}
+use Rattle.aggregate.specs.Aggregate.{bounded, clipped}
+use Rattle.aggregate.proofs.Laws.{clipped-bounded}
+use Rattle.aggregate.proofs.Words.{bounded-fits}
 use Rattle.station.specs.declared.Station.{Station}
 use Rattle.station.specs.Events.{asleep, active, startedBy, ended}
 use Rattle.station.specs.Form as form
@@ -23,54 +25,18 @@ use Rattle.schedule.specs.declared.Step.{Step}
 use Rattle.schedule.specs.Rules.{allowed}
 use Rattle.schedule.proofs.Listing.{range-bounds}
 use Rattle.schedule.proofs.Answers.{allowed-parts}
-use Rattle.stations.specs.Stations.{blank, stationAt, areWellFormed}
+use Rattle.stations.specs.Stations.{noStation, stationAt, areWellFormed}
 use Rattle.stations.proofs.Laws.{replaced-bounded}
 use Rattle.mail.specs.declared.Message.the-variants.{Start, Answer}
 use Rattle.mail.specs.declared.Mailbox.{Mailbox}
 use Rattle.mail.specs.declared.Mailbox.the-variants.{Empty, Full}
-use Rattle.mail.specs.Mail.{mailboxBounded, boxAt, withBox, startsPosted}
-use Rattle.mail.proofs.Laws.{FitsWord, length-starts, length-box, box-after-starts, box-after}
+use Rattle.mail.specs.Mail.{mailboxBounded, boxAt, broughtAt}
 use Rattle.mailbox.specs.Net.{Net, station, areBounded, wellFormed}
-use Rattle.mailbox.specs.Delivery.{takesFrom, awakened, taken, boxesAfter, boxesSettled, boxesDelivered, mustAnswer, delivered, reported}
+use Rattle.mailbox.specs.Delivery.{takesFrom, awakened, taken, mustAnswer, settled, boxesDelivered, delivered, reported}
 use Rattle.mailbox.specs.Rules.{delivery, netAfter, rules}
 use Rattle.mailbox.specs.internal.Receivers.{receiverMade, boxesMade}
-use Rattle.mailbox.proofs.Laws.{form-parts, k-most, formed-at, bounded-at, posted-bounded, taken-parent, delivery-may, places}
-
--- a mailbox after a delivery is as it was, empty, or holds a start
-module _ (P : Mailbox → Type 0) (x y : ℕ) (hx : x < 64) (hy : y < 64) where
-  put-holds : (boxes : List ℕ) → length boxes ≡ 8320 → (s r : ℕ) → s < 64 → r < 64 → (b : Mailbox) → FitsWord b → P b
-      → P (boxAt boxes x y) → P (boxAt (withBox boxes s r b) x y)
-  put-holds boxes long s r hs hr b fits new old =
-      subst P (sym (box-after boxes long s hs x hx r hr y hy b fits)) (by-bool (eqb x s && eqb y r) (λ t. rw t new) (λ f. rw f old))
-
-  module _ (start : P (Full Start)) where
-    starts-hold : (boxes : List ℕ) → length boxes ≡ 8320 → (s stations : ℕ) → s < 64 → P (boxAt boxes x y) → P (boxAt (startsPosted boxes s stations) x y)
-    starts-hold boxes long s stations hs old =
-        subst P (sym (box-after-starts boxes long s hs x hx stations y)) (by-bool (eqb x s && member y stations) (λ t. rw t start) (λ f. rw f old))
-
-    after-holds : (boxes : List ℕ) → length boxes ≡ 8320 → (from to : ℕ) → from < 64 → to < 64 → (receiver : Station) → P Empty → P (boxAt boxes x y)
-        → P (boxAt (boxesAfter boxes from to receiver) x y)
-    unfolding boxesAfter
-    after-holds boxes long from to hf ht receiver none old =
-        let emptied = put-holds boxes long from to hf ht Empty tt none old in
-        by-bool (eqb (receiver .state) asleep)
-        (λ t. rw t (starts-hold (withBox boxes from to Empty) (length-box boxes from to Empty ∙ long) to (without from (receiver .unstarted)) ht emptied))
-        (λ f. rw f emptied)
-
--- the lengths stay
-pub length-after : (boxes : List ℕ) (from to : ℕ) (receiver : Station) → length (boxesAfter boxes from to receiver) ≡ length boxes
-unfolding boxesAfter
-length-after boxes from to receiver =
-    by-bool (eqb (receiver .state) asleep)
-    (λ t. rw t (length-starts (withBox boxes from to Empty) to _ ∙ length-box boxes from to Empty))
-    (λ f. rw f (length-box boxes from to Empty))
-
-length-delivered : (t : Config) (boxes : List ℕ) (from to : ℕ) (receiver : Station) → length (boxesDelivered t boxes from to receiver) ≡ length boxes
-unfolding boxesSettled
-length-delivered t boxes from to receiver =
-    by-bool (mustAnswer t to (taken t from (boxAt boxes from to) receiver))
-    (λ e. rw e (length-box (boxesAfter boxes from to receiver) to _ _ ∙ length-after boxes from to receiver))
-    (λ e. rw e (length-after boxes from to receiver))
+use Rattle.mailbox.proofs.Laws.{form-parts, k-most, formed-at, bounded-at, bounded-box, posted-bounded, taken-parent, delivery-may, places}
+use Rattle.mailbox.proofs.Delivered.{after, length-delivered, box-delivered, brought-delivered}
 
 pub length-made : (t : Config) (boxes : List ℕ) (s : Step) (receiver : Station) → length (boxesMade t boxes s receiver) ≡ length boxes
 length-made t boxes s receiver =
@@ -87,11 +53,12 @@ pub applied-is : (net : Net) (s : Step) → let r = station net (s .receiver) in
 unfolding netAfter delivered reported
 applied-is net s = by-bool (eqb (s .kind) delivery) (λ e. rw e) (λ e. rw e)
 
--- the mailbox from x to y is bounded, if it is one of two different stations
-abbrev Bounds : Config → ℕ → ℕ → Mailbox → Type 0
-Bounds t x y b = (eqb x y || mailboxBounded t b) ≡ true
+-- the mailbox from x to y is bounded, with what an answer there brings, if it is one of two different stations
+abbrev Bounds : Config → ℕ → ℕ → Mailbox → Aggregate → Type 0
+Bounds t x y b v = (eqb x y || mailboxBounded t b v) ≡ true
 
-bounded-all : (t : Config) (boxes : List ℕ) → ((x y : ℕ) → x < t .k → y < t .k → Bounds t x y (boxAt boxes x y)) → areBounded t boxes ≡ true
+bounded-all : (t : Config) (boxes : List ℕ) → ((x y : ℕ) → x < t .k → y < t .k → Bounds t x y (boxAt boxes x y) (broughtAt t boxes x y))
+    → areBounded t boxes ≡ true
 unfolding areBounded
 bounded-all t boxes h = all-below _ (t .k) (λ x lx. all-below _ (t .k) (λ y ly. h x y lx ly))
 
@@ -130,26 +97,27 @@ module _ (t : Config) (i : ℕ) (s : Station) where
           own-parent = woken .own-parent;
         })
 
-    taken-decides : (b : Mailbox) → Decides t i (taken t from b s)
+    taken-decides : (b : Mailbox) (v : Aggregate) → Decides t i (taken t from b v s)
     unfolding startedBy
-    taken-decides Empty = f ∙ sym holds
-    taken-decides (Full Start) =
+    taken-decides Empty v = f ∙ sym holds
+    taken-decides (Full Start) v =
         by-bool (eqb (s .state) asleep)
         (λ e. rw e (awakened-formed e ∙ sym holds))
         (λ e. rw e ((rw e at started) ∙ sym holds))
-    taken-decides (Full (Answer v)) = answer-taken-formed t i s f v
+    taken-decides (Full Answer) v = answer-taken-formed t i s f v
 
 -- only an active station holds more by a message it takes
-taken-holds : (t : Config) (from : ℕ) (b : Mailbox) (s : Station) → takesFrom s b ≡ true → eqb (s .state) active ≡ false → taken t from b s .held ≡ s .held
-taken-holds t from Empty s h n = refl
-taken-holds t from (Full Start) s h n = by-bool (eqb (s .state) asleep) (λ e. rw e) (λ e. rw e)
-taken-holds t from (Full (Answer v)) s h n = clash h n
+taken-holds : (t : Config) (from : ℕ) (b : Mailbox) (v : Aggregate) (s : Station) → takesFrom s b ≡ true → eqb (s .state) active ≡ false
+    → taken t from b v s .held ≡ s .held
+taken-holds t from Empty v s h n = refl
+taken-holds t from (Full Start) v s h n = by-bool (eqb (s .state) asleep) (λ e. rw e) (λ e. rw e)
+taken-holds t from (Full Answer) v s h n = clash h n
 
 and-implied : (a b : Bool) → (a ≡ true → b ≡ true) → (a && b) ≡ a
 and-implied true b h = h refl
 and-implied false b h = refl
 
-module _ (net : Net) (long : length (net .boxes) ≡ 8320) (f : wellFormed net ≡ true) (to : ℕ) (ht : to < net .config .k) where
+module _ (net : Net) (long : length (net .boxes) ≡ 36992) (f : wellFormed net ≡ true) (to : ℕ) (ht : to < net .config .k) where
   abbrev t : Config
   t = net .config
 
@@ -177,56 +145,66 @@ module _ (net : Net) (long : length (net .boxes) ≡ 8320) (f : wellFormed net �
       (λ h. form-parts net f .1)
 
   module _ (from : ℕ) (hf : from < net .config .k) (apart : from ≡ to → ⊥) (takes : takesFrom (station net to) (boxAt (net .boxes) from to) ≡ true) where
-    abbrev after : Station
-    after = taken t from (boxAt (net .boxes) from to) (station net to)
+    abbrev brings : Aggregate
+    brings = broughtAt t (net .boxes) from to
 
-    abbrev boxes : List ℕ
-    boxes = boxesAfter (net .boxes) from to (station net to)
+    abbrev taker : Station
+    taker = after t (net .boxes) from to (station net to)
 
     low : (from < 64) × (to < 64)
     low = omega (arith, k-most net f)
 
-    parent-low : after .parent < 64
+    parent-low : taker .parent < 64
     parent-low =
         let old : station net to .parent < 64 = omega (arith, formed-at net f to ht .parent-below, k-most net f) in
-        taken-parent (λ (p : ℕ). p < 64) t from (boxAt (net .boxes) from to) (station net to) (low .0) old
+        taken-parent (λ (p : ℕ). p < 64) t from (boxAt (net .boxes) from to) brings (station net to) (low .0) old
 
-    below : (x : ℕ) → x < t .k → x < 64
-    below x l = omega (arith, k-most net f)
+    settled-decides : Decides t to (settled t to taker)
+    settled-decides =
+        let took = taken-decides t to (station net to) formed from (k-most net f) hf apart (boxAt (net .boxes) from to) brings in
+        by-bool (mustAnswer t to taker) (λ e. rw e (ended-decides t to taker took)) (λ e. rw e took)
 
-    after-decides : Decides t to after
-    after-decides = taken-decides t to (station net to) formed from (k-most net f) hf apart (boxAt (net .boxes) from to)
+    settled-holds : settled t to taker .held ≡ taker .held
+    settled-holds = by-bool (mustAnswer t to taker) (λ e. rw e) (λ e. rw e)
 
     -- what the receiver took is bounded where its place says so; a receiver without a place is asleep, and took no sum
-    bounded-after : (s : Station) → s .held ≡ after .held → bounded-there s ≡ true → bounded t (after .held) ≡ true
-    bounded-after s same h =
+    bounded-after : bounded-there (settled t to taker) ≡ true → bounded t (taker .held) ≡ true
+    bounded-after h =
         let stations = net .stations in
         by-bool (ltb to (length stations))
-        (λ m. rw (← same) (sym (ap (λ (x : Station). bounded t (x .held)) (getD-set-same stations to s blank (ltb-true to (length stations) m))) ∙ h))
         (λ m.
-        let none : station net to ≡ blank = List·getD-eq-default stations blank (ltb-false to (length stations) m) in
+        let there = getD-set-same stations to (settled t to taker) noStation (ltb-true to (length stations) m) in
+        ap (bounded t) (sym settled-holds) ∙ sym (ap (λ (x : Station). bounded t (x .held)) there) ∙ h)
+        (λ m.
+        let none : station net to ≡ noStation = List·getD-eq-default stations noStation (ltb-false to (length stations) m) in
         let idle : eqb (station net to .state) active ≡ false = ap (λ (x : Station). eqb (x .state) active) none in
-        ap (bounded t) (taken-holds t from (boxAt (net .boxes) from to) (station net to) takes idle) ∙ facts t to (station net to) formed .held-bounded)
+        ap (bounded t) (taken-holds t from (boxAt (net .boxes) from to) brings (station net to) takes idle)
+        ∙ facts t to (station net to) formed .held-bounded)
 
-    boxes-bounded : (x y : ℕ) → x < t .k → y < t .k → Bounds t x y (boxAt boxes x y)
-    boxes-bounded x y lx ly =
-        after-holds (Bounds t x y) x y (below x lx) (below y ly) (or-right (eqb x y) true refl) (net .boxes) long from to (low .0) (low .1) (station net to)
-        (or-right (eqb x y) true refl) (bounded-at net f x y lx ly)
+    -- every mailbox then is as it was, empty, holds a start, or an answer with what the receiver took
+    boxes-bounded : bounded t (taker .held) ≡ true → areBounded t (boxesDelivered t (net .boxes) from to (station net to)) ≡ true
+    boxes-bounded b =
+        bounded-all t _ (λ x y lx ly.
+        let hx : x < 64 = omega (arith, k-most net f) in
+        let hy : y < 64 = omega (arith, k-most net f) in
+        rw (
+          box-delivered t (net .boxes) from to (station net to) long (low .0) (low .1) x y hx hy parent-low apart,
+          brought-delivered t (net .boxes) from to (station net to) long (low .0) (low .1) x y hx hy parent-low (bounded-fits t (taker .held) b),
+        )
+        (by-bool (eqb x from && eqb y to)
+        (λ e. rw e (or-right (eqb x y) true refl))
+        (λ e. by-bool (eqb x to && (mustAnswer t to taker && eqb y (taker .parent)))
+        (λ p. rw (e, p) (or-right (eqb x y) (bounded t (clipped t (taker .held))) (clipped-bounded t (taker .held) ∙ b)))
+        (λ p. by-bool (eqb x to && (eqb (station net to .state) asleep && (member y (station net to .unstarted) && not (eqb y from))))
+        (λ q. rw (e, p, q) (or-right (eqb x y) true refl))
+        (λ q. rw (e, p, q) (bounded-at net f x y lx ly))))))
 
     delivery-decides : wellFormed (delivered net from to) ≡ bounded (delivered net from to .config) (station (delivered net from to) to .held)
-    unfolding wellFormed delivered boxesSettled withBox
-    delivery-decides =
-        by-bool (mustAnswer t to after)
-        (λ e. rw e
-        (placed-decides (ended after) _ (ended-decides t to after after-decides) (λ h.
-        bounded-all t _ (λ x y lx ly.
-        put-holds (Bounds t x y) x y (below x lx) (below y ly) boxes (length-after (net .boxes) from to (station net to) ∙ long) to (after .parent) (low .1) parent-low
-        (Full (Answer (after .held))) (omega (arith, bounded-parts t (after .held) (bounded-after (ended after) refl h) .1))
-        (or-right (eqb x y) (bounded t (after .held)) (bounded-after (ended after) refl h)) (boxes-bounded x y lx ly)))))
-        (λ e. rw e (placed-decides after boxes after-decides (λ h. bounded-all t boxes boxes-bounded)))
+    unfolding wellFormed delivered
+    delivery-decides = placed-decides (settled t to taker) _ settled-decides (λ h. boxes-bounded (bounded-after h))
 
 -- the form after an allowed step
-formed-after : (net : Net) (s : Step) → length (net .boxes) ≡ 8320 → wellFormed net ≡ true → allowed rules net s ≡ true
+formed-after : (net : Net) (s : Step) → length (net .boxes) ≡ 36992 → wellFormed net ≡ true → allowed rules net s ≡ true
     → wellFormed (rules .apply net s) ≡ bounded (rules .apply net s .config) (station (rules .apply net s) (s .receiver) .held)
 unfolding netAfter
 formed-after net s long f a =
@@ -240,10 +218,10 @@ formed-after net s long f a =
     (λ n. rw (ne-eqb (s .kind) delivery n) (report-decides net long f (s .receiver) (b .receiver-low)))
 
 -- what an allowed step finds: places for both stations and for the receiver's parent, and sums that are bounded
-pub step-receives : (net : Net) (s : Step) → wellFormed net ≡ true → allowed rules net s ≡ true
+pub step-receives : (net : Net) (s : Step) (f : wellFormed net ≡ true) → allowed rules net s ≡ true
     → ((s .sender < 64) × ((s .receiver < 64) × (station net (s .receiver) .parent < 64)))
     × ((bounded (net .config) (station net (s .receiver) .held) ≡ true)
-    × (s .kind ≡ delivery → mailboxBounded (net .config) (boxAt (net .boxes) (s .sender) (s .receiver)) ≡ true))
+    × (s .kind ≡ delivery → bounded-box net f (s .sender) (s .receiver) ≡ true))
 step-receives net s f a =
     let p = allowed-parts rules net s a in
     let b = range-bounds rules net s (p .0) in
@@ -254,6 +232,6 @@ step-receives net s f a =
     )
 
 -- what the receiver of an allowed step holds decides on the form of the net after it
-module _ (net : Net) (s : Step) (long : length (net .boxes) ≡ 8320) (f : wellFormed net ≡ true) (a : allowed rules net s ≡ true) where
+module _ (net : Net) (s : Step) (long : length (net .boxes) ≡ 36992) (f : wellFormed net ≡ true) (a : allowed rules net s ≡ true) where
   pub next-formed : {next : Net} → next ≡ rules .apply net s → wellFormed next ≡ bounded (next .config) (station next (s .receiver) .held)
   next-formed e = subst (λ (x : Net). wellFormed x ≡ bounded (x .config) (station x (s .receiver) .held)) (sym e) (formed-after net s long f a)

@@ -14,7 +14,7 @@ use Rattle.bitset.specs.internal.Selected.{setOf}
 use Rattle.bitset.proofs.Unions.{put-set}
 use Rattle.aggregate.specs.Aggregate.{rootOf, bounded}
 use Rattle.station.specs.declared.Station.{Station}
-use Rattle.stations.specs.Stations.{stationAt, blank}
+use Rattle.stations.specs.Stations.{stationAt, noStation}
 use Rattle.schedule.specs.declared.Step.{Step}
 use Rattle.schedule.specs.declared.rows.Drawn.{Drawn}
 use Rattle.schedule.specs.declared.rows.Drawn.the-variants as drawn
@@ -27,7 +27,7 @@ use Rattle.schedule.proofs.Answers.{allowed-parts}
 use Rattle.schedule.proofs.Listing.{range-bounds, Bounds}
 use Rattle.schedule.proofs.Drawing.{drawn-allowed}
 use Rattle.schedule.proofs.Running.{Running, used-up-with, at-rest-with, goes-on-with, unformed-with}
-use Rattle.mail.specs.Mail.{mailboxBounded, boxAt}
+use Rattle.mail.specs.Mail.{mailboxBounded, boxAt, broughtAt}
 use Rattle.mailbox.specs.declared.Line.{Line}
 use Rattle.mailbox.specs.declared.listing.Takers.{Takers}
 use Rattle.mailbox.specs.Net.{Net, netOf, station, wellFormed}
@@ -41,7 +41,7 @@ use Rattle.mailbox.proofs.FormAfter.{length-made, applied-is, step-rece
 -- what is known of a net while a run goes on
 pub record Going (first : Line) (words : List ℕ) (draws : List ℕ) (here : Line) (boxes : List ℕ) (takers : Takers) (rows : List ℕ) (z : Sizes) (made : ℕ) : Type 0 where
   pub running : Running rules (netOf first words) draws (netOf here boxes) made
-  pub long : length boxes ≡ 8320
+  pub long : length boxes ≡ 36992
   pub full : length (here .stations) ≡ 64
   pub known : takers ≡ takersOf (here .config .k) (here .stations)
   pub holds : HoldReceivers all (here .config .k) (rootOf (here .config)) takers (rootReports (here .config) (here .stations)) boxes rows z
@@ -53,8 +53,8 @@ unfolding retaken takersOf
 retaken-is k few stations full j low s =
     let anew : (test : Station → Bool) → put j (test s) (setOf k (λ i. test (stationAt stations i))) ≡ setOf k (λ i. test (stationAt (set stations j s) i)) =
     λ test. put-set k j (test s) _ _ few low
-    (ap test (getD-set-same stations j s blank (omega (arith, full, low, few))))
-    (λ i n. ap test (getD-set-other stations j i s blank n)) in
+    (ap test (getD-set-same stations j s noStation (omega (arith, full, low, few))))
+    (λ i n. ap test (getD-set-other stations j i s noStation n)) in
     ap₂ (λ (starts answers : ℕ). record { starts = starts; answers = answers }) (anew takesStart) (anew takesAnswer)
 
 -- the stations with one written anew
@@ -101,7 +101,8 @@ module _ {first : Line} {words draws : List ℕ} {here : Line} {boxes : List ℕ
 
       pub receives : ((s .sender < 64) × ((s .receiver < 64) × (station net (s .receiver) .parent < 64)))
           × ((bounded (here .config) (station net (s .receiver) .held) ≡ true)
-          × (s .kind ≡ delivery → mailboxBounded (here .config) (boxAt boxes (s .sender) (s .receiver)) ≡ true))
+          × (s .kind ≡ delivery
+          → mailboxBounded (here .config) (boxAt boxes (s .sender) (s .receiver)) (broughtAt (here .config) boxes (s .sender) (s .receiver)) ≡ true))
       receives = step-receives net s formed may
 
       module _ {next : Station} {boxes′ : List ℕ}
@@ -117,7 +118,7 @@ module _ {first : Line} {words draws : List ℕ} {here : Line} {boxes : List ℕ
         decides =
             next-formed net s (G .long) formed may made-is
             ∙ ap (λ (x : Station). bounded (here .config) (x .held))
-            (getD-set-same (here .stations) (s .receiver) next blank (omega (arith, G .full, receiver-low)))
+            (getD-set-same (here .stations) (s .receiver) next noStation (omega (arith, G .full, receiver-low)))
 
         -- the rows as `follow` asks for them
         pub others-held : HoldReceivers (others s) (here .config .k) (rootOf (here .config)) takers (rootReports (here .config) (there .stations)) boxes′ rows z

@@ -11,7 +11,9 @@ use borrow.Author.Tests.{eqb-true, eqb-false, eq-eqb, ne-eqb, not-true}
 use Rattle.finite.proofs.Cases.{clash, by-bool, by-eq, by-sum, and-both}
 use Rattle.bitset.specs.Set.{member}
 use Rattle.bitset.proofs.Laws.{within-member}
-use Rattle.aggregate.specs.Aggregate.{rootOf, missingOf}
+use Rattle.aggregate.specs.declared.Aggregate.{Aggregate}
+use Rattle.aggregate.specs.Aggregate.{rootOf}
+use Rattle.aggregate.proofs.Words.{FitsWord}
 use Rattle.wave.specs.internal.Claim.{Runs, reached}
 use Rattle.station.specs.declared.Station.{Station}
 use Rattle.station.specs.Events.{asleep}
@@ -20,13 +22,14 @@ use Rattle.schedule.specs.declared.Step.{Step}
 use Rattle.schedule.specs.Calls.{Call, callsMade, callsNet}
 use Rattle.schedule.proofs.Listing.{range-bounds, listed-allowed}
 use Rattle.schedule.proofs.Made.{Listed, calls-make}
-use Rattle.mail.specs.Mail.{boxAt}
+use Rattle.mail.specs.Mail.{boxAt, broughtAt}
 use Rattle.mailbox.specs.Net.{Net, station, wellFormed}
 use Rattle.mailbox.specs.Delivery.{mustAnswer, delivered, reported}
 use Rattle.mailbox.specs.Rules.{delivery, netAfter, rules}
 use Rattle.schedule.proofs.Answers.{allowed-parts}
-use Rattle.mailbox.proofs.Laws.{k-most, formed-at, posted-bounded, places, taken-parent, taken-byte, delivery-may}
-use Rattle.mailbox.proofs.Delivered.{Shaped, receiver, delivered-config, delivered-shaped, station-after-delivery, box-after-delivery, reported-shaped, station-after-report}
+use Rattle.mailbox.proofs.Laws.{k-most, formed-at, posted-bounded, places, taken-parent, taken-fits, delivery-may}
+use Rattle.mailbox.proofs.Delivered.{Shaped, receiver, delivered-config, delivered-shaped, station-after-delivery}
+use Rattle.mailbox.proofs.Delivered.{box-after-delivery, brought-after-delivery, reported-shaped, station-after-report}
 
 -- the mailbox from x to y is not one of two different stations below k
 abbrev pub Unused : ℕ → ℕ → ℕ → Type 0
@@ -40,10 +43,14 @@ pub record Keeps (m n : Net) : Type 0 where
   pub config : n .config ≡ m .config
   pub stations : (x : ℕ) → m .config .k ≤ x → station n x ≡ station m x
   pub boxes : (x y : ℕ) → x < 64 → y < 64 → Unused (m .config .k) x y → boxAt (n .boxes) x y ≡ boxAt (m .boxes) x y
+  pub brought : (x y : ℕ) → x < 64 → y < 64 → Unused (m .config .k) x y → broughtAt (m .config) (n .boxes) x y ≡ broughtAt (m .config) (m .boxes) x y
 
 module _ (net : Net) (shaped : Shaped net) (f : wellFormed net ≡ true) (from to : ℕ) (hf : from < net .config .k) (ht : to < net .config .k) (apart : from ≡ to → ⊥) where
   low : (from < 64) × (to < 64)
   low = omega (arith, k-most net f)
+
+  abbrev brings : Aggregate
+  brings = broughtAt (net .config) (net .boxes) from to
 
   abbrev after : Station
   after = receiver net shaped from to (low .0) (low .1)
@@ -52,12 +59,12 @@ module _ (net : Net) (shaped : Shaped net) (f : wellFormed net ≡ true) (from t
   form = formed-at net f to ht
 
   parent-below : after .parent < net .config .k
-  parent-below = taken-parent (λ (p : ℕ). p < net .config .k) (net .config) from (boxAt (net .boxes) from to) (station net to) hf (form .parent-below)
+  parent-below = taken-parent (λ (p : ℕ). p < net .config .k) (net .config) from (boxAt (net .boxes) from to) brings (station net to) hf (form .parent-below)
 
   parent-apart : mustAnswer (net .config) to after ≡ true → after .parent ≡ to → ⊥
   parent-apart m =
       let other = not-true (eqb to (rootOf (net .config))) (and-both (not (eqb to (rootOf (net .config)))) (eqb (after .waits) 0) m .0) in
-      taken-parent (λ (p : ℕ). p ≡ to → ⊥) (net .config) from (boxAt (net .boxes) from to) (station net to) apart
+      taken-parent (λ (p : ℕ). p ≡ to → ⊥) (net .config) from (boxAt (net .boxes) from to) brings (station net to) apart
       (λ e. clash (eq-eqb to (rootOf (net .config)) (form .own-parent e)) other)
 
   module _ (x y : ℕ) (u : Unused (net .config .k) x y) where
@@ -96,9 +103,12 @@ module _ (net : Net) (shaped : Shaped net) (f : wellFormed net ≡ true) (from t
           λ e. clash (ap (λ (j : ℕ). member j set) (sym ex ∙ e) ∙ named) (form .not-in-set),
         ))
 
-  byte : missingOf (after .held) < 256
-  byte =
-      taken-byte (net .config) from (boxAt (net .boxes) from to) (station net to) (formed-at net f to ht .held-bounded)
+  parent-low : after .parent < 64
+  parent-low = omega (arith, parent-below, k-most net f)
+
+  fits : FitsWord (net .config) (after .held)
+  fits =
+      taken-fits (net .config) from (boxAt (net .boxes) from to) brings (station net to) (formed-at net f to ht .held-bounded)
       (posted-bounded net f from to hf ht (ne-eqb from to apart))
 
   delivery-keeps : Keeps net (delivered net from to)
@@ -108,8 +118,10 @@ module _ (net : Net) (shaped : Shaped net) (f : wellFormed net ≡ true) (from t
         stations = λ x past.
             station-after-delivery net shaped from to (low .0) (low .1) x ∙ rw (ne-eqb x to (λ e. omega arith));
         boxes = λ x y hx hy u.
-            box-after-delivery net shaped from to (low .0) (low .1) (omega (arith, parent-below, k-most net f)) byte x y hx hy apart
+            box-after-delivery net shaped from to (low .0) (low .1) parent-low x y hx hy apart
             ∙ rw (not-emptied x y u, not-answered x y u, not-started x y u);
+        brought = λ x y hx hy u.
+            brought-after-delivery net shaped from to (low .0) (low .1) parent-low fits x y hx hy ∙ rw (not-answered x y u);
       }
 
 report-keeps : (net : Net) → Shaped net → (root : ℕ) → root < 64 → root < net .config .k → Keeps net (reported net root)
@@ -119,6 +131,7 @@ report-keeps net shaped root low below =
       config = refl;
       stations = λ x past. station-after-report net shaped root low x ∙ rw (ne-eqb x root (λ e. omega arith));
       boxes = λ x y hx hy u. refl;
+      brought = λ x y hx hy u. refl;
     }
 
 -- a step that is made
@@ -146,10 +159,11 @@ keeps-then l m n p q =
       config = q .config ∙ p .config;
       stations = λ x past. q .stations x (rw (p .config) past) ∙ p .stations x past;
       boxes = λ x y hx hy u. q .boxes x y hx hy (rw (p .config) u) ∙ p .boxes x y hx hy u;
+      brought = λ x y hx hy u. (rw (p .config) at (q .brought x y hx hy (rw (p .config) u))) ∙ p .brought x y hx hy u;
     }
 
 steps-keep : (steps : List Step) (net : Net) → Shaped net → Runs (Listed rules) (rules .apply) net steps → Keeps net (reached (rules .apply) net steps)
-steps-keep [] net shaped runs = record { config = refl; stations = λ x past. refl; boxes = λ x y hx hy u. refl }
+steps-keep [] net shaped runs = record { config = refl; stations = λ x past. refl; boxes = λ x y hx hy u. refl; brought = λ x y hx hy u. refl }
 steps-keep (s ∷ l) net shaped runs =
     let one = step-keeps net shaped s (runs .0) in
     keeps-then net (netAfter net s) (reached (rules .apply) (netAfter net s) l) (one .0) (steps-keep l (netAfter net s) (one .1) (runs .1))

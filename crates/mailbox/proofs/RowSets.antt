@@ -14,7 +14,6 @@ use Rattle.bitset.specs.Set.{member, bitIf}
 use Rattle.bitset.specs.internal.Selected.{setOf}
 use Rattle.bitset.proofs.Laws.{same-members, member-without, without-le}
 use Rattle.bitset.proofs.Selected.{set-lt, set-has, member-and}
-use Rattle.aggregate.specs.declared.Aggregate.{Aggregate}
 use Rattle.aggregate.specs.Aggregate.{rootOf}
 use Rattle.station.specs.declared.Station.{Station}
 use Rattle.station.specs.Events.{asleep, active}
@@ -26,7 +25,6 @@ use Rattle.schedule.proofs.RowLists.{no-row, report-row}
 use Rattle.mail.specs.declared.Message.the-variants.{Start, Answer}
 use Rattle.mail.specs.declared.Mailbox.the-variants.{Empty, Full}
 use Rattle.mail.specs.Mail.{startsOf, answersOf, boxAt}
-use Rattle.mail.proofs.Laws.{brought}
 use Rattle.bitset.proofs.Unions.{member-union, union-lt}
 use Rattle.mailbox.specs.Net.{Net, station}
 use Rattle.mailbox.specs.declared.listing.Takers.{Takers}
@@ -35,13 +33,13 @@ use Rattle.mailbox.specs.internal.Receivers.{takesStart, takesAnswer, ro
 use Rattle.mailbox.specs.Rules.{delivery, report, mayStep, rules}
 
 -- a delivery's tests: as its set has them, and as its guard
-delivery-tests : (apart start answer below : Bool) (r : Station) (v : Aggregate)
+delivery-tests : (apart start answer below : Bool) (r : Station)
     → (apart && (start && (below && takesStart r) || answer && (below && takesAnswer r)))
-    ≡ (below && (apart && takesFrom r (cond start (Full Start) (cond answer (Full (Answer v)) Empty))))
-delivery-tests false start answer false r v = refl
-delivery-tests false start answer true r v = refl
-delivery-tests true start answer false r v = rw (and-false start, and-false answer)
-delivery-tests true true true true r v = by-bool (eqb (r .state) active) (λ t. rw t (ends (eqb (r .state) asleep))) (λ f. rw f (none (eqb (r .state) asleep)))
+    ≡ (below && (apart && takesFrom r (cond start (Full Start) (cond answer (Full Answer) Empty))))
+delivery-tests false start answer false r = refl
+delivery-tests false start answer true r = refl
+delivery-tests true start answer false r = rw (and-false start, and-false answer)
+delivery-tests true true true true r = by-bool (eqb (r .state) active) (λ t. rw t (ends (eqb (r .state) asleep))) (λ f. rw f (none (eqb (r .state) asleep)))
   where
     ends : (b : Bool) → ((b || true) || true) ≡ (b || true)
     ends true = refl
@@ -50,9 +48,9 @@ delivery-tests true true true true r v = by-bool (eqb (r .state) active) (λ t. 
     none : (b : Bool) → ((b || false) || false) ≡ (b || false)
     none true = refl
     none false = refl
-delivery-tests true true false true r v = by-bool (takesStart r) (λ t. rw t) (λ f. rw f)
-delivery-tests true false true true r v = refl
-delivery-tests true false false true r v = refl
+delivery-tests true true false true r = by-bool (takesStart r) (λ t. rw t) (λ f. rw f)
+delivery-tests true false true true r = refl
+delivery-tests true false false true r = refl
 
 eqb-turn : (a b : ℕ) → eqb a b ≡ eqb b a
 eqb-turn a b = by-eq a b (λ (e : a ≡ b). rw e) (λ n. ne-eqb a b n ∙ sym (ne-eqb b a (λ e. n (sym e))))
@@ -83,7 +81,7 @@ module _ (net : Net) (few : net .config .k ≤ 64) where
         member-without i s _
         ∙ ap (λ (b : Bool). not (eqb i s) && b) (member-union i _ _ ∙ ap₂ _||_ (taken starts takesStart) (taken answers takesAnswer))
         ∙ rw (eqb-turn i s)
-        (delivery-tests (not (eqb s i)) (member i starts) (member i answers) (ltb i k) (station net i) (brought (net .boxes) s i))
+        (delivery-tests (not (eqb s i)) (member i starts) (member i answers) (ltb i k) (station net i))
 
     allowed-is : (i : ℕ) → i < k → allowed rules net (step delivery s i) ≡ mayDeliver s i (station net i) (boxAt (net .boxes) s i)
     unfolding allowed inRange mayStep

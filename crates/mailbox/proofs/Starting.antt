@@ -10,7 +10,7 @@ use Rattle.finite.proofs.Below.{length-tabulate}
 use Rattle.bitset.specs.Set.{member}
 use Rattle.aggregate.specs.declared.Config.{Config}
 use Rattle.aggregate.specs.Aggregate.{rootOf}
-use Rattle.stations.specs.Stations.{freshStation, freshStations}
+use Rattle.stations.specs.Stations.{readingAt, freshStation, freshStations}
 use Rattle.mail.specs.declared.Message.the-variants.{Start}
 use Rattle.mail.specs.declared.Mailbox.the-variants.{Empty, Full}
 use Rattle.mail.specs.Mail.{boxAt, noMail}
@@ -20,20 +20,20 @@ use Rattle.mailbox.specs.Net.{freshNet}
 use Rattle.mailbox.proofs.Delivered.{Shaped}
 
 module _ (t : Config) (counts neighbours : List ℕ) where
-  empty-long : length noMail ≡ 8320
-  empty-long = length-replicate {A = ℕ} 8320 0
+  empty-long : length noMail ≡ 36992
+  empty-long = length-replicate {A = ℕ} 36992 0
 
   pub fresh-shaped : Shaped (freshNet t counts neighbours)
   unfolding freshNet freshStations
   fresh-shaped =
       record {
-        stations = length-tabulate (λ i. freshStation t (getD counts i 0) (getD neighbours i 0) i) 64;
+        stations = length-tabulate (λ i. freshStation t (readingAt t counts i) (getD neighbours i 0) i) 64;
         boxes = length-starts noMail (rootOf t) (getD neighbours (rootOf t) 0) ∙ empty-long;
       }
 
   none : (x y : ℕ) → x < 64 → boxAt noMail x y ≡ Empty
   unfolding boxAt
-  none x y hx = rw (getD-replicate {A = ℕ} 8320 x 0 0 (omega arith), getD-replicate {A = ℕ} 8320 (64 + x) 0 0 (omega arith), member-empty y)
+  none x y hx = rw (getD-replicate {A = ℕ} 36992 x 0 0 (omega arith), getD-replicate {A = ℕ} 36992 (64 + x) 0 0 (omega arith), member-empty y)
 
   -- a start from the root to each of its neighbours, and all other mailboxes empty
   pub fresh-box : rootOf t < 64 → (x y : ℕ) → x < 64 → y < 64

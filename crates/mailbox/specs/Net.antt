@@ -10,10 +10,10 @@ use Rattle.aggregate.specs.declared.Config.{Config}
 use Rattle.aggregate.specs.Aggregate.{rootOf}
 use Rattle.station.specs.declared.Station.{Station}
 use Rattle.stations.specs.Stations.{stationAt, areWellFormed, freshStations}
-use Rattle.mail.specs.Mail.{mailboxBounded, boxAt, startsPosted, noMail}
+use Rattle.mail.specs.Mail.{mailboxBounded, boxAt, broughtAt, startsPosted, noMail}
 use Rattle.mailbox.specs.declared.Line.{Line}
 
--- what the net was opened with, its 64 places of stations, and the 8,320 words of its mailboxes
+-- what the net was opened with, its 64 places of stations, and the 36,992 words of its mailboxes
 pub record Net : Type 0 where
   pub config : Config
   pub stations : List Station
@@ -29,7 +29,7 @@ station net i = stationAt (net .stations) i
 
 -- "posted sums below 2^62", between different stations below k (Causes and numbers, form)
 unfoldable pub areBounded : Config → List ℕ → Bool
-areBounded t boxes = allBelow (t .k) (λ s. allBelow (t .k) (λ r. eqb s r || mailboxBounded t (boxAt boxes s r)))
+areBounded t boxes = allBelow (t .k) (λ s. allBelow (t .k) (λ r. eqb s r || mailboxBounded t (boxAt boxes s r) (broughtAt t boxes s r)))
 
 -- "Form (11)": the stations' and the mailboxes'
 unfoldable pub wellFormed : Net → Bool

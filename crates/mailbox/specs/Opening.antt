@@ -15,7 +15,7 @@ freshOn m = freshNet (configOf m) (m .counts) (m .neighbours)
 
 -- the stations handed back with a refusal: none
 abbrev pub emptyLine : Line
-emptyLine = record { config = record { k = 0 }; stations = replicate 64 blank }
+emptyLine = record { config = record { k = 0; classes = 0 }; stations = replicate 64 blank }
 
 -- "a map handed over goes 3, 7 to 10" (Causes and numbers); a refusal leaves the mailboxes as they were
 abbrev pub mailboxOpening : Map → List ℕ → Opening Net

@@ -12,7 +12,7 @@ ghost use mathlib.Core.Bool.{true};
 ghost use Prim.Native.Nat.{_<_};
 ghost use Rattle.aggregate.specs.Aggregate.{rootOf, bounded};
 ghost use Rattle.schedule.specs.Rules.{stepInRange};
-ghost use Rattle.mail.specs.Mail.{mailboxBounded, boxAt};
+ghost use Rattle.mail.specs.Mail.{mailboxBounded, boxAt, broughtAt};
 ghost use Rattle.mailbox.specs.Delivery.{takesFrom, mayDeliver, mayReport, awakened, taken, mustAnswer, receiverAfter, boxesDelivered};
 ghost use Rattle.mailbox.specs.Rules.{delivery, report, mayStep};
 ghost use Rattle.mailbox.specs.internal.Receivers.{receiverMade, boxesMade};
@@ -32,7 +32,7 @@ fn takes(receiver: Station, content: Mailbox) -> bool
         Mailbox::Empty => false,
         Mailbox::Full(message) => match message {
             Message::Start => (state == station::ASLEEP) | (state == station::ACTIVE),
-            Message::Answer(_) => state == station::ACTIVE,
+            Message::Answer => state == station::ACTIVE,
         },
     }
 }
@@ -72,11 +72,13 @@ fn awaken(receiver: Station, from: u8) -> Station
     next
 }
 
-// The receiver after it took what the mailbox holds.
-fn take(t: Config, from: u8, content: Mailbox, receiver: Station) -> Station
-    requires { ⌜ (bounded t (receiver .held) ≡ true) × (mailboxBounded t content ≡ true) ⌝ }
-    ensures { λ r. ⌜ r ≡ taken t from content receiver ⌝ }
+// The receiver after it took what the mailbox between two stations holds: the words of an answer are read only where there is one.
+fn take(t: Config, boxes: &[u64; 36992], from: u8, to: u8, receiver: Station) -> Station
+    requires places { ⌜ (from < 64) × (to < 64) ⌝ }
+    requires sums { ⌜ (bounded t (receiver .held) ≡ true) × (mailboxBounded t (boxAt (now boxes) from to) (broughtAt t (now boxes) from to) ≡ true) ⌝ }
+    ensures { λ r. ⌜ r ≡ taken t from (boxAt (now (boxes .entry)) from to) (broughtAt t (now (boxes .entry)) from to) receiver ⌝ }
 {
+    let content = mail::box_at(boxes, from, to);
     match content {
         Mailbox::Empty => receiver,
         Mailbox::Full(message) => match message {
@@ -85,7 +87,7 @@ fn take(t: Config, from: u8, content: Mailbox, receiver: Station) -> Station
             } else {
                 receiver.start_taken()
             },
-            Message::Answer(v) => receiver.answer_taken(t, v),
+            Message::Answer => receiver.answer_taken(t, mail::brought_at(t, boxes, from, to)),
         },
     }
 }
@@ -101,36 +103,37 @@ fn must_answer(t: Config, to: u8, s: Station) -> bool
 // left to wait for posts its sum to its parent and is finished. It answers the receiver after that; no other station changes.
 pub(crate) fn deliver(
     t: Config,
-    boxes: &mut [u64; 8320],
+    boxes: &mut [u64; 36992],
     from: u8,
     to: u8,
     receiver: Station,
 ) -> Station
     requires places { ⌜ (from < 64) × ((to < 64) × (receiver .parent < 64)) ⌝ }
-    requires sums { ⌜ (bounded t (receiver .held) ≡ true) × (mailboxBounded t (boxAt (now boxes) from to) ≡ true) ⌝ }
+    requires sums { ⌜ (bounded t (receiver .held) ≡ true) × (mailboxBounded t (boxAt (now boxes) from to) (broughtAt t (now boxes) from to) ≡ true) ⌝ }
     ensures receiver { λ r. ⌜ r ≡ receiverAfter t (now (boxes .entry)) from to receiver ⌝ }
     ensures boxes { λ r. ⌜ now (boxes .exit) ≡ boxesDelivered t (now (boxes .entry)) from to receiver ⌝ }
 {
-    let content = mail::box_at(boxes, from, to);
-    let s = take(t, from, content, receiver);
-    mail::put_box(boxes, from, to, Mailbox::Empty);
+    let s = take(t, boxes, from, to, receiver);
+    mail::put_box(boxes, from, to, Mailbox::Empty, aggregate::empty());
     if receiver.state == station::ASLEEP {
         let others = bitset::without(receiver.unstarted, from);
         mail::post_starts(boxes, to, others);
     }
     if must_answer(t, to, s) {
         let held = s.held;
-        mail::put_box(boxes, to, s.parent, Mailbox::Full(Message::Answer(held)));
+        let given = aggregate::clip(t, held);
+        mail::put_box(boxes, to, s.parent, Mailbox::Full(Message::Answer), given);
         return s.ended();
     }
     s
 }
 
 // An allowed step, in place: what it makes of its receiver.
-pub(crate) fn receive(t: Config, boxes: &mut [u64; 8320], step: Step, receiver: Station) -> Station
+pub(crate) fn receive(t: Config, boxes: &mut [u64; 36992], step: Step, receiver: Station) -> Station
     requires places { ⌜ (step .sender < 64) × ((step .receiver < 64) × (receiver .parent < 64)) ⌝ }
     requires sums { ⌜ (bounded t (receiver .held) ≡ true)
-        × (step .kind ≡ delivery → mailboxBounded t (boxAt (now boxes) (step .sender) (step .receiver)) ≡ true) ⌝ }
+        × (step .kind ≡ delivery
+        → mailboxBounded t (boxAt (now boxes) (step .sender) (step .receiver)) (broughtAt t (now boxes) (step .sender) (step .receiver)) ≡ true) ⌝ }
     ensures receiver { λ r. ⌜ r ≡ receiverMade t (now (boxes .entry)) step receiver ⌝ }
     ensures boxes { λ r. ⌜ now (boxes .exit) ≡ boxesMade t (now (boxes .entry)) step receiver ⌝ }
 {

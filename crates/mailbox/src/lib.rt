@@ -22,7 +22,7 @@ ghost use Rattle.refusal.specs.declared.Refusal.the-variants.{OutOfForm};
 ghost use Rattle.linemap.specs.Openings.{openingOf};
 ghost use Rattle.schedule.specs.Outcome.{stepRefused, stepOutcomeOf, runOutcomeOf};
 ghost use Rattle.schedule.specs.Draws.{stepOn, drawOn, runOn};
-ghost use Rattle.mail.specs.Mail.{mailboxBounded, boxAt};
+ghost use Rattle.mail.specs.Mail.{mailboxBounded, boxAt, broughtAt};
 ghost use Rattle.mailbox.specs.Net.{netOf, areBounded, wellFormed, freshNet};
 ghost use Rattle.mailbox.specs.Rules.{rules};
 ghost use Rattle.mailbox.specs.Opening;
@@ -71,13 +71,13 @@ fn unopened() -> Line
     let none = stations::blank();
     let stations = [none; 64];
     Line {
-        config: Config { k: 0 },
+        config: Config { k: 0, classes: 0 },
         stations: stations,
     }
 }
 
 // The net before the first step: a start from the root in each neighbour's mailbox.
-fn fresh_net(t: Config, counts: [u32; 64], neighbours: [u64; 64], boxes: &mut [u64; 8320]) -> Line
+fn fresh_net(t: Config, counts: [u32; 512], neighbours: [u64; 64], boxes: &mut [u64; 36992]) -> Line
     requires { ⌜ rootOf t < 64 ⌝ }
     ensures { λ r. ⌜ netOf r (now (boxes .exit)) ≡ freshNet t counts neighbours ⌝ }
 {
@@ -92,7 +92,7 @@ fn fresh_net(t: Config, counts: [u32; 64], neighbours: [u64; 64], boxes: &mut [u
 }
 
 // The fresh net of an accepted map; any other opens none, and leaves the mailboxes as they were.
-pub fn fresh(m: Map, boxes: &mut [u64; 8320]) -> Opened
+pub fn fresh(m: Map, boxes: &mut [u64; 36992]) -> Opened
     ensures { λ r. ⌜ openingOf (r .verdict) (netOf (r .line) (now (boxes .exit))) ≡ Opening.mailboxOpening m (now (boxes .entry)) ⌝ }
 {
     let verdict = linemap::accept(m);
@@ -112,9 +112,9 @@ pub fn fresh(m: Map, boxes: &mut [u64; 8320]) -> Opened
 }
 
 // Whether the posted sums of a sender are bounded. Most senders have posted none; eight receivers to whom no answer waits are passed by one test.
-fn is_row_bounded(t: Config, boxes: &[u64; 8320], s: u8) -> bool
+fn is_row_bounded(t: Config, boxes: &[u64; 36992], s: u8) -> bool
     requires { ⌜ (t .k ≤ 64) × (s < 64) ⌝ }
-    ensures { λ b. ⌜ b ≡ allBelow (t .k) (λ r. eqb s r || mailboxBounded t (boxAt (now (boxes .entry)) s r)) ⌝ }
+    ensures { λ b. ⌜ b ≡ allBelow (t .k) (λ r. eqb s r || mailboxBounded t (boxAt (now (boxes .entry)) s r) (broughtAt t (now (boxes .entry)) s r)) ⌝ }
 {
     let answers = boxes[64 + (s as usize)];
     if answers == 0 {
@@ -127,8 +127,7 @@ fn is_row_bounded(t: Config, boxes: &[u64; 8320], s: u8) -> bool
         if (answers >> r) % 256 == 0 {
             r += 8;
         } else {
-            let content = mail::box_at(boxes, s, r);
-            ok = ok & ((s == r) | mail::is_bounded(t, content));
+            ok = ok & ((s == r) | mail::is_box_bounded(t, boxes, s, r));
             r += 1;
         }
     }
@@ -136,7 +135,7 @@ fn is_row_bounded(t: Config, boxes: &[u64; 8320], s: u8) -> bool
 }
 
 // Whether the posted sums between different stations are bounded.
-fn are_bounded(t: Config, boxes: &[u64; 8320]) -> bool
+fn are_bounded(t: Config, boxes: &[u64; 36992]) -> bool
     requires { ⌜ t .k ≤ 64 ⌝ }
     ensures { λ r. ⌜ r ≡ areBounded t (now (boxes .entry)) ⌝ }
 {
@@ -150,7 +149,7 @@ fn are_bounded(t: Config, boxes: &[u64; 8320]) -> bool
     ok
 }
 
-fn is_well_formed(line: Line, boxes: &[u64; 8320]) -> bool
+fn is_well_formed(line: Line, boxes: &[u64; 36992]) -> bool
     ensures { λ r. ⌜ r ≡ wellFormed (netOf line (now (boxes .entry))) ⌝ }
 {
     let t = line.config;
@@ -172,7 +171,7 @@ fn refuse(line: Line, why: Refusal) -> Stepped
 }
 
 // One step: refused by 11, 12 or 13, or made.
-pub fn step(mut line: Line, boxes: &mut [u64; 8320], step: Step) -> Stepped
+pub fn step(mut line: Line, boxes: &mut [u64; 36992], step: Step) -> Stepped
     ensures { λ r. ⌜ stepOutcomeOf (r .answer) (netOf (r .line) (now (boxes .exit))) ≡ stepOn rules (netOf line (now (boxes .entry))) step ⌝ }
 {
     if !is_well_formed(line, boxes) {
@@ -197,7 +196,7 @@ pub fn step(mut line: Line, boxes: &mut [u64; 8320], step: Step) -> Stepped
 }
 
 // The step that a draw picks, made: refused by 11, or by 14 where no step is allowed.
-pub fn draw(mut line: Line, boxes: &mut [u64; 8320], d: u16) -> Stepped
+pub fn draw(mut line: Line, boxes: &mut [u64; 36992], d: u16) -> Stepped
     ensures { λ r. ⌜ stepOutcomeOf (r .answer) (netOf (r .line) (now (boxes .exit))) ≡ drawOn rules (netOf line (now (boxes .entry))) d ⌝ }
 {
     if !is_well_formed(line, boxes) {
@@ -257,7 +256,7 @@ fn count_words(boxes: &[u64]) -> usize
 // The steps that the draws pick, one after the other, until they are used up, one is refused, or the form is left. The counter is the place
 // among the draws and the number of steps made. The form is tested once: after that, only what the receiver has gathered can break it. Who
 // takes a message is kept, and the rows follow each step.
-pub fn run(mut line: Line, boxes: &mut [u64; 8320], draws: &[u16]) -> Ran
+pub fn run(mut line: Line, boxes: &mut [u64; 36992], draws: &[u16]) -> Ran
     ensures { λ r. ⌜ runOutcomeOf (r .answer) (r .steps) (r .«at_rest») (netOf (r .line) (now (boxes .exit))) ≡ runOn rules (netOf line (now (boxes .entry))) (now (draws .entry)) ⌝ }
 {
     if !is_well_formed(line, boxes) {

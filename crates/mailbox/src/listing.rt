@@ -75,7 +75,7 @@ pub(crate) fn fill(
     t: Config,
     takers: Takers,
     reports: bool,
-    boxes: &[u64; 8320],
+    boxes: &[u64; 36992],
 ) -> Sizes
     requires { ⌜ (t .k ≤ 64) × (length (now rows) ≡ 256) ⌝ }
     ensures { λ z. ⌜ Rules.HoldReceivers Rules.all (t .k) (rootOf t) takers reports (now (boxes .entry)) (now (rows .exit)) z ⌝ }
@@ -108,7 +108,7 @@ fn refill(
     t: Config,
     takers: Takers,
     reports: bool,
-    boxes: &[u64; 8320],
+    boxes: &[u64; 36992],
     sender: u8,
 ) -> Sizes
     requires { ⌜ sender < 64 ⌝ }
@@ -138,7 +138,7 @@ pub(crate) fn follow(
     old: Takers,
     takers: Takers,
     reports: bool,
-    boxes: &[u64; 8320],
+    boxes: &[u64; 36992],
     step: Step,
 ) -> Sizes
     requires places { ⌜ (t .k ≤ 64) × ((step .sender < t .k) × (step .receiver < t .k)) ⌝ }
@@ -157,7 +157,7 @@ pub(crate) fn fill_net(
     rows: &mut [u64; 256],
     line: Line,
     takers: Takers,
-    boxes: &[u64; 8320],
+    boxes: &[u64; 36992],
 ) -> Sizes
     requires { ⌜ (line .config .k ≤ 64) × (rootOf (line .config) < 64) × (length (now rows) ≡ 256) ⌝ }
     ensures { λ z. ⌜ Rules.HoldReceivers Rules.all (line .config .k) (rootOf (line .config)) takers (Rules.rootReports (line .config) (line .stations)) (now (boxes .entry)) (now (rows .exit)) z ⌝ }

@@ -6,17 +6,18 @@ use Prim.Native.Nat.{ℕ, _*_, _%_}
 use lib.Dec.{leb, eqb}
 use lib.ListN.{length}
 use Rattle.finite.proofs.Cases.{clash, by-bool}
-use Rattle.topology.specs.declared.Fault.the-variants.{Stations}
+use Rattle.topology.specs.declared.Fault.the-variants.{Classes, Stations}
 use Rattle.topology.specs.Answer.{accepted, isAccepted}
 use Rattle.finite.specs.Tests.{unless}
 use Rattle.bitset.specs.Set.{isStationCount}
 use Rattle.linemap.specs.declared.Map.{Map}
 use Rattle.linemap.specs.declared.ReadFault.{ReadFault}
-use Rattle.linemap.specs.declared.ReadFault.the-variants.{Short, RowLength, Distance, Rows, CheckWord, Unfit}
+use Rattle.linemap.specs.declared.ReadFault.the-variants.{Short, Distance, Rows, CheckWord, Unfit}
 use Rattle.linemap.specs.Maps.{acceptance}
-use Rattle.linemap.specs.Numbers.{sumWords}
-use Rattle.linemap.specs.Stored.{rowLength, trailerLength, storedLength, wordCount}
-use Rattle.linemap.specs.Reading.{ReadOutcome, readRefused, readAs, stationsIn, rowLengthIn, distanceIn, lotIn, startIn, mapAt, judged, reading}
+use Rattle.linemap.specs.Words.{sumWords}
+use Rattle.linemap.specs.Stored.{trailerLength, storedLength, wordCount}
+use Rattle.linemap.specs.Reading.{ReadOutcome, readRefused, readAs, isRowLength, mapAt, judged, reading}
+use Rattle.linemap.specs.Reading.{stationsIn, rowLengthIn, classesIn, distanceIn, lotIn, startIn}
 use Rattle.linemap.proofs.Answers.{read-fault-refuses}
 use Rattle.linemap.proofs.Accepted.{read-accepted}
 use Rattle.opening.specs.declared.OpenFault.the-variants.{TooLong, Odd}
@@ -37,12 +38,12 @@ reading-sound : (s : List ℕ) → Sound (reading s)
 unfolding reading
 reading-sound s =
     sound-unless (leb trailerLength (length s)) Short _
-    (sound-unless (eqb (rowLengthIn s) rowLength) RowLength _
+    (sound-unless (isRowLength (rowLengthIn s)) (Unfit Classes) _
     (sound-unless (isStationCount (stationsIn s)) (Unfit Stations) _
-    (sound-unless (eqb (distanceIn s) (rowLength * stationsIn s)) Distance _
-    (sound-unless (leb (storedLength (stationsIn s)) (length s)) Rows _
-    (sound-unless (eqb (sumWords s (startIn s) (wordCount (stationsIn s))) 0) CheckWord _
-    (sound-judged (mapAt s (stationsIn s) (lotIn s) (startIn s))))))))
+    (sound-unless (eqb (distanceIn s) (rowLengthIn s * stationsIn s)) Distance _
+    (sound-unless (leb (storedLength (classesIn s) (stationsIn s)) (length s)) Rows _
+    (sound-unless (eqb (sumWords s (startIn s) (wordCount (classesIn s) (stationsIn s))) 0) CheckWord _
+    (sound-judged (mapAt s (classesIn s) (stationsIn s) (lotIn s) (startIn s))))))))
 
 -- an opening that refuses nothing passed each test
 passed : (b : Bool) (numbers : List ℕ) (rest o : ReadOutcome) → (b ≡ false → isAccepted numbers ≡ false) → isAccepted (o .numbers) ≡ true

@@ -1,5 +1,5 @@
 -- What an opening comes to at the first rule that refuses, and where none does. Assumes nothing.
-use mathlib.Core.Path.{_≡_, sym, ap, _∙_}
+use mathlib.Core.Path.{_≡_, sym, ap, _∙_, subst}
 use mathlib.Core.List.{List, [], _∷_}
 use Prim.Native.Nat.{ℕ, _-_, _/_, _%_, _≤_, _<_}
 use lib.ListN.{length}
@@ -9,7 +9,7 @@ use Rattle.linemap.specs.declared.MapRead.{MapRead}
 use Rattle.linemap.specs.declared.ReadFault.{ReadFault}
 use Rattle.linemap.specs.declared.ReadAnswer.{ReadAnswer}
 use Rattle.linemap.specs.declared.ReadAnswer.the-variants.{Accepted, Refused}
-use Rattle.linemap.specs.Stored.{storedLength}
+use Rattle.linemap.specs.Stored.{lengthOf}
 use Rattle.linemap.specs.Reading.{readFaultNumbers, readNumbers, ReadOutcome, readAs, reading}
 use Rattle.linemap.specs.Reading as reading
 use Rattle.linemap.proofs.Answers.{read-fault-refuses}
@@ -34,10 +34,10 @@ module _ (s : List ℕ) where
       is-read = sym told ∙ ap (λ (a : ReadAnswer). record { numbers = readNumbers a; map = r .map }) e
 
       -- the map ends the input
-      pub map-fits : storedLength (r .map .k) ≤ length s
-      map-fits = let facts = read-facts s (r .map) is-read in rw (ap (λ (m : Map). m .k) (facts .is)) at (facts .fits)
+      pub map-fits : lengthOf (r .map) ≤ length s
+      map-fits = let facts = read-facts s (r .map) is-read in subst (λ (m : Map). lengthOf m ≤ length s) (facts .is) (facts .fits)
 
-      module _ (need : ℕ) (stored : need ≡ storedLength (r .map .k)) where
+      module _ (need : ℕ) (stored : need ≡ lengthOf (r .map)) where
         pub odd : ((length s - need) % 2 ≡ 0 → ⊥) → openRefused (openFaultNumbers Odd) ≡ inputOpening s
         unfolding inputOpening
         odd h =

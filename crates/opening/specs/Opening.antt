@@ -7,8 +7,8 @@ use Rattle.finite.specs.Below.{tabulate}
 use Rattle.topology.specs.Answer.{isAccepted}
 use Rattle.finite.specs.Tests.{unless}
 use Rattle.linemap.specs.declared.Map.{Map}
-use Rattle.linemap.specs.Numbers.{number}
-use Rattle.linemap.specs.Stored.{storedLength}
+use Rattle.finite.specs.Numbers.{number}
+use Rattle.linemap.specs.Stored.{lengthOf}
 use Rattle.linemap.specs.Reading.{readFaultNumbers, ReadOutcome, emptyMap, reading}
 use Rattle.opening.specs.declared.OpenFault.{OpenFault}
 use Rattle.opening.specs.declared.OpenFault.the-variants.{TooLong, Unread, Odd}
@@ -41,7 +41,7 @@ mostBytes = 65536
 
 -- the bytes before the map, which ends the input
 abbrev pub bytesBefore : List ℕ → Map → ℕ
-bytesBefore s m = length s - storedLength (m .k)
+bytesBefore s m = length s - lengthOf m
 
 -- "Order: 17, 1 to 10, 16"
 unfoldable pub inputOpening : List ℕ → ReadOutcome

@@ -58,7 +58,7 @@ pub fn open(input: &[u8]) -> Opening
         return refuse(OpenFault::Unread(fault));
     }
     let map = read.map;
-    let before = input.len() - linemap::stored_length(map.k);
+    let before = input.len() - linemap::stored_length(map.classes, map.k);
     if before % 2 != 0 {
         return refuse(OpenFault::Odd);
     }
@@ -87,6 +87,7 @@ fn fault_line(fault: Fault) -> Line
     ensures { λ r. ⌜ r ≡ refusalLine (faultNumbers fault) ⌝ }
 {
     match fault {
+        Fault::Classes => Line::Refused(2),
         Fault::Stations => Line::Refused(3),
         Fault::Beyond(station) => Line::RefusedStation(7, station),
         Fault::Itself(station) => Line::RefusedStation(8, station),
@@ -100,7 +101,6 @@ fn read_fault_line(fault: ReadFault) -> Line
 {
     match fault {
         ReadFault::Short => Line::Refused(1),
-        ReadFault::RowLength => Line::Refused(2),
         ReadFault::Distance => Line::Refused(4),
         ReadFault::Rows => Line::Refused(5),
         ReadFault::CheckWord => Line::Refused(6),

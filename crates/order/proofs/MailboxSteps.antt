@@ -14,9 +14,12 @@ use Rattle.finite.proofs.Cases.{clash, by-bool, by-eq, by-sum, and-both, or-cas
 use Rattle.bitset.specs.Set.{member, size}
 use Rattle.bitset.proofs.Laws.{size-sum}
 use Rattle.aggregate.specs.declared.Config.{Config}
+use Rattle.aggregate.specs.declared.Cell.{Cell}
 use Rattle.aggregate.specs.declared.Aggregate.{Aggregate}
-use Rattle.aggregate.specs.Aggregate.{rootOf, missingOf}
-use Rattle.aggregate.specs.internal.Joining.{joining}
+use Rattle.aggregate.specs.Aggregate.{rootOf, clipped}
+use Rattle.aggregate.specs.internal.Joining.{cells, joining}
+use Rattle.aggregate.proofs.Laws.{cells-joined, cells-clipped}
+use Rattle.aggregate.proofs.Words.{FitsWord}
 use Rattle.wave.specs.internal.Graph.{Graph}
 use Rattle.station.specs.declared.Station.{Station}
 use Rattle.station.specs.Events.{ended}
@@ -29,23 +32,25 @@ use Rattle.mail.specs.declared.Message.the-variants.{Start, Answer}
 use Rattle.mail.specs.declared.Mailbox.{Mailbox}
 use Rattle.mail.specs.declared.Mailbox.the-variants.{Empty, Full}
 use Rattle.mailbox.specs.Net.{Net, station, wellFormed}
-use Rattle.mailbox.proofs.Laws.{formed-at, posted-bounded, taken-byte}
-use Rattle.mail.specs.Mail.{boxAt}
+use Rattle.mailbox.proofs.Laws.{formed-at, posted-bounded, taken-fits}
+use Rattle.mail.specs.Mail.{boxAt, broughtAt}
 use Rattle.mailbox.specs.Delivery.{takesFrom, taken, mustAnswer, delivered, mayReport, reported}
-use Rattle.mailbox.proofs.Delivered.{Shaped, receiver, delivered-config, delivered-shaped, station-after-delivery, box-after-delivery, reported-shaped, station-after-report, box-after-report}
+use Rattle.mailbox.proofs.Delivered.{Shaped, receiver, delivered-config, delivered-shaped, station-after-delivery, box-after-delivery, brought-after-delivery, reported-shaped, station-after-report, boxes-after-report}
 use Rattle.mailbox.specs.Rules as figure
 use Rattle.mailbox.specs.Rules.{mayStep, netAfter, rules}
 use Rattle.order.proofs.Stations.{viewOf, line, Places}
 use Rattle.order.proofs.Mailing.{Box, empty, start, answer, full, isAnswer, received, MailView, Act, deliver, close, label, May, sumThen, parentThen, waitsThen, answersThen, boxThen, Does}
 
-abbrev pub toBox : Mailbox → Box Aggregate
-toBox Empty = empty
-toBox (Full Start) = start
-toBox (Full (Answer u)) = answer u
+-- a mailbox, with what it brings if it is an answer
+abbrev pub toBox : Mailbox → (ℕ → Cell) → Box (ℕ → Cell)
+toBox Empty v = empty
+toBox (Full Start) v = start
+toBox (Full Answer) v = answer v
 
 -- what the rules read of a net
-abbrev pub view : Net → MailView Aggregate
-view n = record { stations = viewOf (n .stations); box = λ x y. toBox (boxAt (n .boxes) x y) }
+abbrev pub view : Config → Net → MailView (ℕ → Cell)
+view t n =
+    record { stations = viewOf t (n .stations); box = λ x y. toBox (boxAt (n .boxes) x y) (cells t (broughtAt t (n .boxes) x y)) }
 
 abbrev pub act : Step → Act
 act m = cond (eqb (m .kind) figure.report) close (deliver (m .sender) (m .receiver))
@@ -54,32 +59,33 @@ pub label-act : (m : Step) → label (act m) ≡ labelOf rules m
 label-act m = by-bool (eqb (m .kind) 2) (λ e. rw e) (λ e. rw e)
 
 -- a box's message is taken where the rules say so
-takes-may : (s : Station) (b : Mailbox) → takesFrom s b ≡ true
-    → (full (toBox b) ≡ true) × ((s .state ≡ 1) ⊎ ((s .state ≡ 0) × (isAnswer (toBox b) ≡ false)))
-takes-may s Empty e = clash e refl
-takes-may s (Full Start) e =
+takes-may : (s : Station) (b : Mailbox) (v : ℕ → Cell) → takesFrom s b ≡ true
+    → (full (toBox b v) ≡ true) × ((s .state ≡ 1) ⊎ ((s .state ≡ 0) × (isAnswer (toBox b v) ≡ false)))
+takes-may s Empty v e = clash e refl
+takes-may s (Full Start) v e =
     (refl, by-sum (or-cases (eqb (s .state) 0) (eqb (s .state) 1) e) (λ q. inr (eqb-true (s .state) 0 q, refl)) (λ q. inl (eqb-true (s .state) 1 q)))
-takes-may s (Full (Answer u)) e = (refl, inl (eqb-true (s .state) 1 e))
+takes-may s (Full Answer) v e = (refl, inl (eqb-true (s .state) 1 e))
 
-pub may-takes : (s : Station) (b : Mailbox) → full (toBox b) ≡ true
-    → (s .state ≡ 1) ⊎ ((s .state ≡ 0) × (isAnswer (toBox b) ≡ false)) → takesFrom s b ≡ true
-may-takes s Empty e c = clash e refl
-may-takes s (Full Start) e (inl q) = rw q
-may-takes s (Full Start) e (inr q) = rw (q .0)
-may-takes s (Full (Answer u)) e (inl q) = rw q
-may-takes s (Full (Answer u)) e (inr q) = clash refl (q .1)
+pub may-takes : (s : Station) (b : Mailbox) (v : ℕ → Cell) → full (toBox b v) ≡ true
+    → (s .state ≡ 1) ⊎ ((s .state ≡ 0) × (isAnswer (toBox b v) ≡ false)) → takesFrom s b ≡ true
+may-takes s Empty v e c = clash e refl
+may-takes s (Full Start) v e (inl q) = rw q
+may-takes s (Full Start) v e (inr q) = rw (q .0)
+may-takes s (Full Answer) v e (inl q) = rw q
+may-takes s (Full Answer) v e (inr q) = clash refl (q .1)
 
 -- what taking a message makes of a station of k
-record Taken (t : Config) (s : Station) (from : ℕ) (b : Mailbox) : Type 0 where
-  sum-is : taken t from b s .held ≡ received (joining t) (s .held) (toBox b)
-  set-is : taken t from b s .unstarted ≡ s .unstarted
-  parent-is : taken t from b s .parent ≡ cond (eqb (s .state) 0) from (s .parent)
-  waits-is : taken t from b s .waits ≡ pred (cond (eqb (s .state) 0) (sumTo addition (t .k) (λ h. indicator (member h (s .unstarted)))) (s .waits))
-  state-is : taken t from b s .state ≡ 1
+record Taken (t : Config) (s : Station) (from : ℕ) (b : Mailbox) (v : Aggregate) : Type 0 where
+  sum-is : cells t (taken t from b v s .held) ≡ received joining (cells t (s .held)) (toBox b (cells t v))
+  set-is : taken t from b v s .unstarted ≡ s .unstarted
+  parent-is : taken t from b v s .parent ≡ cond (eqb (s .state) 0) from (s .parent)
+  waits-is : taken t from b v s .waits ≡ pred (cond (eqb (s .state) 0) (sumTo addition (t .k) (λ h. indicator (member h (s .unstarted)))) (s .waits))
+  state-is : taken t from b v s .state ≡ 1
 
-taken-is : (t : Config) (s : Station) (from : ℕ) (b : Mailbox) → t .k ≤ 64 → s .unstarted < 2 ^ t .k → takesFrom s b ≡ true → Taken t s from b
-taken-is t s from Empty l w e = clash e refl
-taken-is t s from (Full Start) l w e =
+taken-is : (t : Config) (s : Station) (from : ℕ) (b : Mailbox) (v : Aggregate) → t .k ≤ 64 → s .unstarted < 2 ^ t .k → takesFrom s b ≡ true
+    → Taken t s from b v
+taken-is t s from Empty v l w e = clash e refl
+taken-is t s from (Full Start) v l w e =
     by-eq (s .state) 0
     (λ q.
     let z = eq-eqb (s .state) 0 q in
@@ -90,11 +96,11 @@ taken-is t s from (Full Start) l w e =
     let less : s .waits - 1 ≡ pred (s .waits) = omega arith in
     let one : s .state ≡ 1 = eqb-true (s .state) 1 (rw z at e) in
     record { sum-is = rw z; set-is = rw z; parent-is = rw z; waits-is = rw z less; state-is = rw z one })
-taken-is t s from (Full (Answer u)) l w e =
+taken-is t s from (Full Answer) v l w e =
     let one = eqb-true (s .state) 1 e in
     let z : eqb (s .state) 0 ≡ false = rw one in
     let less : s .waits - 1 ≡ pred (s .waits) = omega arith in
-    record { sum-is = refl; set-is = refl; parent-is = rw z; waits-is = rw z less; state-is = one }
+    record { sum-is = cells-joined t (s .held) v; set-is = refl; parent-is = rw z; waits-is = rw z less; state-is = one }
 
 module _ (t : Config) (neighbours : List ℕ) (web : Web (rootOf t) (t .k) neighbours) where
   abbrev web-graph : Graph
@@ -155,11 +161,11 @@ module _ (t : Config) (neighbours : List ℕ) (web : Web (rootOf t) (t .k) neigh
         let e = parts .at-root q in
         rw (z₂, z₁, e) (c (rw (z₁, z₂, e) at (parts .guarded))))
 
-    pub may-of : May web-graph (view n) (act m)
+    pub may-of : May web-graph (view t n) (act m)
     may-of =
-        by-step (λ b n′. May web-graph (view n) b)
+        by-step (λ b n′. May web-graph (view t n) b)
         (λ s r hs hr ne e.
-        let w = takes-may (station n r) (boxAt (n .boxes) s r) e in
+        let w = takes-may (station n r) (boxAt (n .boxes) s r) (cells t (broughtAt t (n .boxes) s r)) e in
         record { below = (hs, hr); apart = ne; filled = w .0; receiver = w .1 })
         (λ e.
         let w = and-both (eqb (station n (rootOf t) .state) 1) (eqb (station n (rootOf t) .waits) 0) e in
@@ -175,7 +181,7 @@ module _ (t : Config) (neighbours : List ℕ) (web : Web (rootOf t) (t .k) neigh
 
     -- the receiver after it took the message, and after it settled
     abbrev after : Config → Station
-    after c = taken c s (boxAt (n .boxes) s r) (station n r)
+    after c = taken c s (boxAt (n .boxes) s r) (broughtAt c (n .boxes) s r) (station n r)
 
     abbrev R : Station
     R = after t
@@ -183,10 +189,10 @@ module _ (t : Config) (neighbours : List ℕ) (web : Web (rootOf t) (t .k) neigh
     abbrev R′ : Station
     R′ = cond (mustAnswer t r R) (ended R) R
 
-    T : Taken t (station n r) s (boxAt (n .boxes) s r)
-    T = taken-is t (station n r) s (boxAt (n .boxes) s r) (web .few-stations) (G .places .narrow r hr) e
+    T : Taken t (station n r) s (boxAt (n .boxes) s r) (broughtAt t (n .boxes) s r)
+    T = taken-is t (station n r) s (boxAt (n .boxes) s r) (broughtAt t (n .boxes) s r) (web .few-stations) (G .places .narrow r hr) e
 
-    must-is : mustAnswer t r R ≡ answersThen web-graph (view n) r
+    must-is : mustAnswer t r R ≡ answersThen web-graph (view t n) r
     must-is = ap (λ (w : ℕ). not (eqb r (rootOf t)) && eqb w 0) (T .waits-is)
 
     parent-low : R .parent < t .k
@@ -205,7 +211,7 @@ module _ (t : Config) (neighbours : List ℕ) (web : Web (rootOf t) (t .k) neigh
     kept : {A : Type 0} (f : Station → A) → f (ended R) ≡ f R → f R′ ≡ f R
     kept f h = by-bool (mustAnswer t r R) (λ z. rw z h) (λ z. rw z)
 
-    state-then : R′ .state ≡ cond (answersThen web-graph (view n) r) 2 1
+    state-then : R′ .state ≡ cond (answersThen web-graph (view t n) r) 2 1
     state-then =
         let one : R′ .state ≡ cond (mustAnswer t r R) 2 1 = by-bool (mustAnswer t r R) (λ z. rw z) (λ z. rw z (T .state-is)) in
         one ∙ ap (λ (c : Bool). cond c 2 1) must-is
@@ -215,48 +221,62 @@ module _ (t : Config) (neighbours : List ℕ) (web : Web (rootOf t) (t .k) neigh
         field-is (λ st. st .unstarted) (station n r .unstarted) (kept (λ st. st .unstarted) refl ∙ T .set-is) x
         ∙ by-eq x r (λ q. (rw (eq-eqb x r q)) ∙ ap (λ (z : ℕ). station n z .unstarted) (sym q)) (λ q. rw (ne-eqb x r q))
 
-    -- the box from x to y, by what the receiver then does and holds
-    abbrev later : ℕ → ℕ → Bool → ℕ → Aggregate → Mailbox
-    later x y answers parent held =
+    -- the box from x to y, by what the receiver then does, and what it brings
+    abbrev later : ℕ → ℕ → Bool → ℕ → Mailbox
+    later x y answers parent =
         cond (eqb x s && eqb y r) Empty
-        (cond (eqb x r && (answers && eqb y parent)) (Full (Answer held))
+        (cond (eqb x r && (answers && eqb y parent)) (Full Answer)
         (cond (eqb x r && (eqb (station n r .state) 0 && (member y (station n r .unstarted) && not (eqb y s)))) (Full Start) (boxAt (n .boxes) x y)))
 
+    abbrev brings : Config → ℕ → ℕ → Bool → ℕ → Aggregate → Aggregate
+    brings c x y answers parent held = cond (eqb x r && (answers && eqb y parent)) (clipped c held) (broughtAt c (n .boxes) x y)
+
     -- in a net in form, what the receiver then holds fits the words of a mailbox
-    byte : wellFormed n ≡ true → missingOf (after (n .config) .held) < 256
-    byte f =
+    fits : wellFormed n ≡ true → FitsWord (n .config) (after (n .config) .held)
+    fits f =
         let low : (s < n .config .k) × (r < n .config .k) = rw (G .config-is) (hs, hr) in
-        taken-byte (n .config) s (boxAt (n .boxes) s r) (station n r) (formed-at n f r (low .1) .held-bounded)
+        taken-fits (n .config) s (boxAt (n .boxes) s r) (broughtAt (n .config) (n .boxes) s r) (station n r) (formed-at n f r (low .1) .held-bounded)
         (posted-bounded n f s r (low .0) (low .1) (ne-eqb s r ne))
 
-    box-is : wellFormed n ≡ true → (x y : ℕ) → x < 64 → y < 64 → boxAt (delivered n s r .boxes) x y ≡ later x y (mustAnswer t r R) (R .parent) (R .held)
-    box-is f x y hx hy =
-        let low : after (n .config) .parent < 64 = subst (λ (c : Config). after c .parent < 64) (sym (G .config-is)) (omega (arith, parent-low, web .few-stations)) in
-        box-after-delivery n (G .shaped) s r s-low r-low low (byte f) x y hx hy ne
-        ∙ ap (λ (c : Config). later x y (mustAnswer c r (after c)) (after c .parent) (after c .held)) (G .config-is)
+    low-parent : after (n .config) .parent < 64
+    low-parent = subst (λ (c : Config). after c .parent < 64) (sym (G .config-is)) (omega (arith, parent-low, web .few-stations))
 
-    box-then : wellFormed n ≡ true → (x y : ℕ) → x < t .k → y < t .k → toBox (boxAt (delivered n s r .boxes) x y) ≡ boxThen web-graph (joining t) (view n) s r x y
+    box-is : (x y : ℕ) → x < 64 → y < 64 → boxAt (delivered n s r .boxes) x y ≡ later x y (mustAnswer t r R) (R .parent)
+    box-is x y hx hy =
+        box-after-delivery n (G .shaped) s r s-low r-low low-parent x y hx hy ne
+        ∙ ap (λ (c : Config). later x y (mustAnswer c r (after c)) (after c .parent)) (G .config-is)
+
+    brought-is : wellFormed n ≡ true → (x y : ℕ) → x < 64 → y < 64
+        → broughtAt t (delivered n s r .boxes) x y ≡ brings t x y (mustAnswer t r R) (R .parent) (R .held)
+    brought-is f x y hx hy =
+        ap (λ (c : Config). broughtAt c (delivered n s r .boxes) x y) (sym (G .config-is))
+        ∙ brought-after-delivery n (G .shaped) s r s-low r-low low-parent (fits f) x y hx hy
+        ∙ ap (λ (c : Config). brings c x y (mustAnswer c r (after c)) (after c .parent) (after c .held)) (G .config-is)
+
+    box-then : wellFormed n ≡ true → (x y : ℕ) → x < t .k → y < t .k
+        → toBox (boxAt (delivered n s r .boxes) x y) (cells t (broughtAt t (delivered n s r .boxes) x y)) ≡ boxThen web-graph joining (view t n) s r x y
     box-then f x y h l =
-        let answers = answersThen web-graph (view n) r in
-        ap toBox (box-is f x y (omega (arith, web .few-stations)) (omega (arith, web .few-stations)))
-        ∙ ap (λ (a : Bool). toBox (later x y a (R .parent) (R .held))) must-is
-        ∙ ap₂ (λ (p : ℕ) (u : Aggregate). toBox (later x y answers p u)) (T .parent-is) (T .sum-is)
+        let answers = answersThen web-graph (view t n) r in
+        let hx : x < 64 = omega (arith, web .few-stations) in
+        let hy : y < 64 = omega (arith, web .few-stations) in
+        ap₂ (λ (b : Mailbox) (v : Aggregate). toBox b (cells t v)) (box-is x y hx hy) (brought-is f x y hx hy)
+        ∙ ap₂ (λ (a : Bool) (p : ℕ). toBox (later x y a p) (cells t (brings t x y a p (R .held)))) must-is (T .parent-is)
         ∙ by-bool (eqb x s && eqb y r)
         (λ a. rw a)
-        (λ a. by-bool (eqb x r && (answers && eqb y (parentThen (view n) s r)))
-        (λ b. rw (a, b))
+        (λ a. by-bool (eqb x r && (answers && eqb y (parentThen (view t n) s r)))
+        (λ b. rw (a, b) (ap answer (cells-clipped t (R .held) ∙ T .sum-is)))
         (λ b. by-bool (eqb x r && (eqb (station n r .state) 0 && (member y (station n r .unstarted) && not (eqb y s)))) (λ c. rw (a, b, c)) (λ c. rw (a, b, c))))
 
-    delivers : wellFormed n ≡ true → Does web-graph (joining t) (view n) (deliver s r) (view (delivered n s r))
+    delivers : wellFormed n ≡ true → Does web-graph joining (view t n) (deliver s r) (view t (delivered n s r))
     delivers f =
         record {
           stations =
               record {
-                sums = λ x l. field-is (λ st. st .held) (sumThen (joining t) (view n) s r) (kept (λ st. st .held) refl ∙ T .sum-is) x;
+                sums = λ x l. field-is (λ st. cells t (st .held)) (sumThen joining (view t n) s r) (kept (λ st. cells t (st .held)) refl ∙ T .sum-is) x;
                 sets = λ x y l. ap (member y) (set-kept x);
-                parents = λ x l. field-is (λ st. st .parent) (parentThen (view n) s r) (kept (λ st. st .parent) refl ∙ T .parent-is) x;
-                waitings = λ x l. field-is (λ st. st .waits) (waitsThen web-graph (view n) r) (kept (λ st. st .waits) refl ∙ T .waits-is) x;
-                states = λ x l. field-is (λ st. st .state) (cond (answersThen web-graph (view n) r) 2 1) state-then x;
+                parents = λ x l. field-is (λ st. st .parent) (parentThen (view t n) s r) (kept (λ st. st .parent) refl ∙ T .parent-is) x;
+                waitings = λ x l. field-is (λ st. st .waits) (waitsThen web-graph (view t n) r) (kept (λ st. st .waits) refl ∙ T .waits-is) x;
+                states = λ x l. field-is (λ st. st .state) (cond (answersThen web-graph (view t n) r) 2 1) state-then x;
               };
           boxes = λ x y l b. box-then f x y l b;
         }
@@ -295,18 +315,18 @@ module _ (t : Config) (neighbours : List ℕ) (web : Web (rootOf t) (t .k) neigh
         (λ q. (rw (eq-eqb x root q)) ∙ h ∙ ap (λ (z : ℕ). f (station n z)) (sym q))
         (λ q. rw (ne-eqb x root q))
 
-    reports : Does web-graph (joining t) (view n) close (view (reported n root))
+    reports : Does web-graph joining (view t n) close (view t (reported n root))
     reports =
         record {
           stations =
               record {
-                sums = λ x l. field-kept (λ st. st .held) refl x;
+                sums = λ x l. field-kept (λ st. cells t (st .held)) refl x;
                 sets = λ x y l. ap (member y) (field-kept (λ st. st .unstarted) refl x);
                 parents = λ x l. field-kept (λ st. st .parent) refl x;
                 waitings = λ x l. field-kept (λ st. st .waits) refl x;
                 states = λ x l. root-field (λ st. st .state) x;
               };
-          boxes = λ x y l b. ap toBox (box-after-report n (G .shaped) root root-low x y);
+          boxes = λ x y l b. ap (λ (words : List ℕ). toBox (boxAt words x y) (cells t (broughtAt t words x y))) (boxes-after-report n (G .shaped) root root-low);
         }
 
     reported-good : Good (reported n root)
@@ -324,9 +344,9 @@ module _ (t : Config) (neighbours : List ℕ) (web : Web (rootOf t) (t .k) neigh
         }
 
   module _ (n : Net) (m : Step) (G : Good n) (a : Allowed rules n m) where
-    pub does-of : wellFormed n ≡ true → Does web-graph (joining t) (view n) (act m) (view (rules .apply n m))
+    pub does-of : wellFormed n ≡ true → Does web-graph joining (view t n) (act m) (view t (rules .apply n m))
     does-of f =
-        by-step n m G a (λ b n′. Does web-graph (joining t) (view n) b (view n′))
+        by-step n m G a (λ b n′. Does web-graph joining (view t n) b (view t n′))
         (λ s r hs hr ne e. delivers n G s r hs hr ne e f)
         (λ e. reports n G)
 
@@ -337,7 +357,7 @@ module _ (t : Config) (neighbours : List ℕ) (web : Web (rootOf t) (t .k) neigh
         (λ e. reported-good n G)
 
   -- whatever the rules allow is allowed
-  pub can-of : (n : Net) → Good n → (b : Act) → May web-graph (view n) b → (m : Step) × Allowed rules n m
+  pub can-of : (n : Net) → Good n → (b : Act) → May web-graph (view t n) b → (m : Step) × Allowed rules n m
   unfolding allowed inRange mayStep
   can-of n G (deliver i j) m = (
     record { kind = 1; sender = i; receiver = j },
@@ -346,7 +366,7 @@ module _ (t : Config) (neighbours : List ℕ) (web : Web (rootOf t) (t .k) neigh
       lt-ltb i (t .k) (m .below .0),
       lt-ltb j (t .k) (m .below .1),
       ne-eqb i j (m .apart),
-      may-takes (station n j) (boxAt (n .boxes) i j) (m .filled) (m .receiver),
+      may-takes (station n j) (boxAt (n .boxes) i j) (cells t (broughtAt t (n .boxes) i j)) (m .filled) (m .receiver),
     ),
   )
   can-of n G close m = (

@@ -7,15 +7,17 @@ use Prim.Native.Nat.{ℕ}
 use lib.ListN.{getD}
 use Rattle.finite.proofs.Cases.{clash}
 use Rattle.finite.specs.Links.{links}
+use Rattle.aggregate.specs.Aggregate.{rootOf}
 use Rattle.topology.specs.declared.Fault.{Fault}
 use Rattle.topology.specs.declared.LinksAnswer.{LinksAnswer}
 use Rattle.topology.specs.declared.LinksAnswer.the-variants.{Counted}
 use Rattle.topology.specs.declared.LinksAnswer.the-variants as links
 use Rattle.topology.specs.Answer.{accepted, isAccepted}
-use Rattle.topology.specs.Acceptance.{linked, linksNumbers, linksOf}
+use Rattle.topology.specs.Acceptance.{linked, verdictOf, linksNumbers, linksOf}
 use Rattle.topology.proofs.Answers.{fault-refuses}
 use Rattle.linemap.specs.declared.Map.{Map}
-use Rattle.linemap.specs.Maps.{acceptance, linksIn}
+use Rattle.linemap.specs.Maps.{configOf, acceptance, linksIn}
+use Rattle.linemap.proofs.Accepted.{map-classes}
 use Rattle.linemap.proofs.Answers.{read-fault-refuses}
 use Rattle.opening.specs.declared.OpenFault.{OpenFault}
 use Rattle.opening.specs.declared.OpenFault.the-variants.{TooLong, Unread, Odd}
@@ -26,14 +28,17 @@ use Rattle.opening.specs.declared.OpenAnswer.the-variants as opened
 use Rattle.opening.specs.Opening.{openFaultNumbers, openNumbers, inputOpening, openOutcomeOf as openedAs}
 use Rattle.opening.specs.Refusals.{refusalLine}
 use Rattle.opening.proofs.Accepted.{opened-accepted}
-use Rattle.program.specs.Output.{linesOf}
+use Rattle.program.specs.Output.{plain, linesOf}
 use Rattle.program.specs.internal.Filling.{Opens}
 
 -- the links of an accepted map are counted
 module _ (m : Map) (good : acceptance m ≡ accepted) where
   links-are : linksIn m ≡ 0 ∷ links (m .k) (linked (m .k) (m .neighbours)) ∷ []
   unfolding linksOf
-  links-are = rw good
+  links-are =
+      let count = map-classes m (ap isAccepted good) in
+      let whole : verdictOf (rootOf (configOf m)) (m .k) (m .neighbours) ≡ accepted = rw count at good in
+      rw (count, whole)
 
   module _ (a : LinksAnswer) (e : linksNumbers a ≡ linksIn m) where
     pub counted : {n : ℕ} → a ≡ Counted n → n ≡ links (m .k) (linked (m .k) (m .neighbours))
@@ -56,6 +61,7 @@ module _ (s : List ℕ) (o : Opening) (e : openedAs o ≡ inputOpening s) where
   refuses (Unread fault) = read-fault-refuses fault
   refuses Odd = refl
 
-  pub refusal-alone : {fault : OpenFault} → o .answer ≡ opened.Refused fault → linesOf s ≡ refusalLine (openFaultNumbers fault) ∷ []
+  pub refusal-alone : {fault : OpenFault} → o .answer ≡ opened.Refused fault
+      → linesOf s ≡ plain (o .map) (refusalLine (openFaultNumbers fault)) ∷ []
   unfolding linesOf
   refusal-alone {fault} q = rw (answered q, refuses fault)

@@ -8,15 +8,16 @@ use lib.ListN.{length, take, length-take}
 use lib.Seq.{take-all}
 use borrow.Author.Tests.{leb-true, leb-false}
 use Rattle.finite.proofs.Cases.{by-bool}
+use Rattle.linemap.specs.Reading.{emptyMap}
 use Rattle.opening.specs.declared.OpenFault.the-variants.{TooLong}
 use Rattle.opening.specs.Opening.{openFaultNumbers, mostBytes}
 use Rattle.opening.specs.Refusals.{refusalLine}
 use Rattle.opening.proofs.Rules.{too-long}
-use Rattle.program.specs.Output.{linesOf}
+use Rattle.program.specs.Output.{plain, linesOf}
 use Rattle.program.specs.internal.Filling.{bytesOf}
 use Rattle.program.specs.Running.{inputRoom, FrontEnough}
 
-long-refused : (s : List ℕ) → mostBytes < length s → linesOf s ≡ refusalLine (openFaultNumbers TooLong) ∷ []
+long-refused : (s : List ℕ) → mostBytes < length s → linesOf s ≡ plain emptyMap (refusalLine (openFaultNumbers TooLong)) ∷ []
 unfolding linesOf
 long-refused s h = rw (← too-long s h)
 

@@ -7,37 +7,41 @@ use native.Mathlib.Omega.{arith}
 use lib.ListN.{length, take, drop, length-append, length-drop, drop-of-length-le}
 use lib.Seq.{take-all, take-add, drop-drop, sets-eq}
 use borrow.Author.Tests.{le-leb}
-use Rattle.text.specs.declared.Line.{Line}
-use Rattle.text.specs.Text.{textOf, lineRoom, textIn, over}
+use Rattle.text.specs.Text.{lineRoom, textIn, over}
 use Rattle.text.specs.internal.Putting.{Put}
 use Rattle.text.proofs.Lines.{text-le}
+use Rattle.program.specs.declared.Shown.{Shown}
+use Rattle.program.specs.Output.{shownText}
 use Rattle.program.specs.internal.Filling.{bytesOf}
 
-pub bytes-le : (lines : List Line) → length (bytesOf lines) ≤ length lines * lineRoom
+pub shown-le : (line : Shown) → length (shownText line) ≤ lineRoom
+shown-le line = text-le (line .config) (line .held) (line .line)
+
+pub bytes-le : (lines : List Shown) → length (bytesOf lines) ≤ length lines * lineRoom
 unfolding flatMap
 bytes-le [] = omega arith
-bytes-le (line ∷ lines) = omega (arith, length-append (textOf line) (bytesOf lines), text-le line, bytes-le lines)
+bytes-le (line ∷ lines) = omega (arith, length-append (shownText line) (bytesOf lines), shown-le line, bytes-le lines)
 
-bytes-append : (a b : List Line) → bytesOf (a ++ b) ≡ bytesOf a ++ bytesOf b
+bytes-append : (a b : List Shown) → bytesOf (a ++ b) ≡ bytesOf a ++ bytesOf b
 unfolding flatMap
 bytes-append [] b = refl
 bytes-append (line ∷ a) b =
-    ap (λ (l : List ℕ). textOf line ++ l) (bytes-append a b) ∙ sym (append-assoc (textOf line) (bytesOf a) (bytesOf b))
+    ap (λ (l : List ℕ). shownText line ++ l) (bytes-append a b) ∙ sym (append-assoc (shownText line) (bytesOf a) (bytesOf b))
 
-pub bytes-one : (line : Line) → bytesOf (line ∷ []) ≡ textOf line
+pub bytes-one : (line : Shown) → bytesOf (line ∷ []) ≡ shownText line
 unfolding flatMap
-bytes-one line = append-nil (textOf line)
+bytes-one line = append-nil (shownText line)
 
 -- one line more
-pub bytes-next : (i : ℕ) (lines : List Line) {line : Line} {after : List Line} → drop i lines ≡ line ∷ after
-    → bytesOf (take (i + 1) lines) ≡ bytesOf (take i lines) ++ textOf line
+pub bytes-next : (i : ℕ) (lines : List Shown) {line : Shown} {after : List Shown} → drop i lines ≡ line ∷ after
+    → bytesOf (take (i + 1) lines) ≡ bytesOf (take i lines) ++ shownText line
 bytes-next i lines {line} e =
-    ap bytesOf (take-add i 1 lines ∙ ap (λ (l : List Line). take i lines ++ take 1 l) e)
+    ap bytesOf (take-add i 1 lines ∙ ap (λ (l : List Shown). take i lines ++ take 1 l) e)
     ∙ bytes-append (take i lines) (line ∷ [])
     ∙ ap (λ (l : List ℕ). bytesOf (take i lines) ++ l) (bytes-one line)
 
 -- a line that was put into the part of a buffer from `at` on
-module _ (l : List ℕ) (at : ℕ) (line : Line) (enough : at + lineRoom ≤ length l) where
+module _ (l : List ℕ) (at : ℕ) (line : Shown) (enough : at + lineRoom ≤ length l) where
   -- the part, as the code lends it
   abbrev part : List ℕ
   part = take (length l - at) (drop at l)
@@ -45,18 +49,18 @@ module _ (l : List ℕ) (at : ℕ) (line : Line) (enough : at + lineRoom ≤ len
   part-is : part ≡ drop at l
   part-is = take-all (length l - at) (drop at l) (omega (arith, length-drop at l))
 
-  whole-line : textIn (length part) line ≡ textOf line
+  whole-line : textIn (length part) (line .config) (line .held) (line .line) ≡ shownText line
   unfolding textIn
   whole-line = rw (le-leb lineRoom (length part) (omega (arith, ap length part-is, length-drop at l)))
 
-  module _ {n : ℕ} (count : n ≡ length (textIn (length part) line)) where
+  module _ {n : ℕ} (count : n ≡ length (textIn (length part) (line .config) (line .held) (line .line))) where
     pub count-le : n ≤ lineRoom
-    count-le = omega (arith, count, ap length whole-line, text-le line)
+    count-le = omega (arith, count, ap length whole-line, shown-le line)
 
-    pub line-put-at : {after : List ℕ} → after ≡ over (textIn (length part) line) part
-        → Put l at (textOf line) (take at l ++ (after ++ drop (length l - at) (drop at l))) (at + n)
+    pub line-put-at : {after : List ℕ} → after ≡ over (textIn (length part) (line .config) (line .held) (line .line)) part
+        → Put l at (shownText line) (take at l ++ (after ++ drop (length l - at) (drop at l))) (at + n)
     line-put-at {after} bytes =
-        let text : List ℕ = textOf line in
+        let text : List ℕ = shownText line in
         let none : drop (length l - at) (drop at l) ≡ [] =
         drop-of-length-le (drop at l) {i = length l - at} (omega (arith, length-drop at l)) in
         let rest : after ++ drop (length l - at) (drop at l) ≡ text ++ drop (at + length text) l =
@@ -70,6 +74,6 @@ module _ (l : List ℕ) (at : ℕ) (line : Line) (enough : at + lineRoom ≤ len
           bytes =
               ap (λ (x : List ℕ). take at l ++ x) rest
               ∙ sym (append-assoc (take at l) text (drop (at + length text) l))
-              ∙ sym (sets-eq text l at (omega (arith, text-le line)));
+              ∙ sym (sets-eq text l at (omega (arith, shown-le line)));
           end = omega (arith, count, ap length whole-line);
         }

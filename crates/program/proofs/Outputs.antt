@@ -7,14 +7,13 @@ use native.Mathlib.Omega.{arith}
 use lib.ListN.{length, take, drop, length-append}
 use lib.Seq.{take-append-seam}
 use borrow.Author.Tests.{lt-leb, le-leb}
-use Rattle.text.specs.declared.Line.{Line}
-use Rattle.text.specs.Text.{textOf, over}
+use Rattle.text.specs.Text.{over}
 use Rattle.text.specs.internal.Putting.{Put}
-use Rattle.text.proofs.Lines.{text-le}
 use Rattle.text.proofs.Stores.{put-front}
-use Rattle.program.specs.Output.{linesOf, outputOf, outputRoom, outputIn}
+use Rattle.program.specs.declared.Shown.{Shown}
+use Rattle.program.specs.Output.{shownText, linesOf, outputOf, outputRoom, outputIn}
 use Rattle.program.specs.internal.Filling.{Filled, bytesOf}
-use Rattle.program.proofs.Lines.{bytes-one}
+use Rattle.program.proofs.Lines.{shown-le, bytes-one}
 
 module _ (s l : List ℕ) where
   pub output-left : length l < outputRoom → (0 ≡ length (outputIn (length l) s)) × (l ≡ over (outputIn (length l) s) l)
@@ -27,10 +26,10 @@ module _ (s l : List ℕ) where
     output-put f = rw (le-leb outputRoom (length l) enough) (put-front (f .room) (f .put))
 
     -- one line that is all
-    pub line-fills : {line : Line} → linesOf s ≡ line ∷ [] → Put l 0 (textOf line) l′ r → Filled s l l′ r
+    pub line-fills : {line : Shown} → linesOf s ≡ line ∷ [] → Put l 0 (shownText line) l′ r → Filled s l l′ r
     line-fills {line} alone p =
-        let all : textOf line ≡ outputOf s = sym (ap bytesOf alone ∙ bytes-one line) in
-        record { room = record { fits = omega (arith, ap length all, text-le line) }; put = rw all at p }
+        let all : shownText line ≡ outputOf s = sym (ap bytesOf alone ∙ bytes-one line) in
+        record { room = record { fits = omega (arith, ap length all, shown-le line) }; put = rw all at p }
 
 -- and is read back there
 module _ (s l : List ℕ) {l′ : List ℕ} {r : ℕ} (count : r ≡ length (outputIn (length l) s)) (put : l′ ≡ over (outputIn (length l) s) l) where

@@ -25,12 +25,12 @@ use Rattle.rendezvous.specs.declared.Net.{Net}
 use Rattle.rendezvous.specs.Rules.{rules}
 use Rattle.rendezvous.specs.Opening as meet
 use Rattle.rendezvous.proofs.Laws.{places}
-use Rattle.text.specs.declared.Line.{Line}
-use Rattle.text.specs.Text.{textOf, lineRoom}
+use Rattle.text.specs.Text.{lineRoom}
 use Rattle.text.specs.internal.Putting.{Put}
 use Rattle.text.proofs.Stores.{put-then}
 use Rattle.opening.specs.Opening.{inputOpening, drawAt, drawsIn}
-use Rattle.program.specs.Output.{stepLine, stepLines, closingLine, lotLines, linesOf}
+use Rattle.program.specs.declared.Shown.{Shown}
+use Rattle.program.specs.Output.{shownText, stepShown, stepLines, closingLine, lotLines, linesOf}
 use Rattle.program.specs.internal.Filling.{Opens, Roomy, StepsPut, Filled, bytesOf}
 use Rattle.program.proofs.Lines.{bytes-le, bytes-next}
 
@@ -42,7 +42,7 @@ sender-below net d answer next {step} e q =
     places net (drawn-formed rules net d step made) step (allowed-parts rules net step (drawn-step rules net d step made .0) .0) .0
 
 -- the lines of a net after n steps, by the draws that are left
-unfoldable pub linesLeft : Map → Net → ℕ → List ℕ → List Line
+unfoldable pub linesLeft : Map → Net → ℕ → List ℕ → List Shown
 linesLeft m net n ds = stepLines net (runMade rules net ds) ++ (closingLine m (n + length (runMade rules net ds)) ∷ [])
 
 module _ (m : Map) (net : Net) (i : ℕ) (ds : List ℕ) where
@@ -56,19 +56,19 @@ module _ (m : Map) (net : Net) (i : ℕ) (ds : List ℕ) where
     refused z = rw (drop-cons ds i 0 h, z) (ap (λ (n : ℕ). closingLine m n ∷ []) (omega arith))
 
     goes-on : (s : Step) → drawOn rules net (getD ds i 0) .made ≡ s ∷ []
-        → linesLeft m net i (drop i ds) ≡ stepLine net s ∷ linesLeft m (drawOn rules net (getD ds i 0) .net) (i + 1) (drop (i + 1) ds)
+        → linesLeft m net i (drop i ds) ≡ stepShown net s ∷ linesLeft m (drawOn rules net (getD ds i 0) .net) (i + 1) (drop (i + 1) ds)
     unfolding linesLeft stepLines runMade
     goes-on s z =
         let next : Net = drawOn rules net (getD ds i 0) .net in
         let rest : List Step = runMade rules next (drop (suc i) ds) in
         rw (drop-cons ds i 0 h, z, add-one i, ← drawn-step rules net (getD ds i 0) s z .1)
-        (ap (λ (n : ℕ). stepLine net s ∷ (stepLines next rest ++ (closingLine m n ∷ [])))
+        (ap (λ (n : ℕ). stepShown net s ∷ (stepLines next rest ++ (closingLine m n ∷ [])))
         {x = i + suc (length rest)}
         {y = suc i + length rest}
         (omega arith))
 
 -- a line that is left has room after those before it, and is put there
-module _ (s : List ℕ) {l l′ : List ℕ} (i : ℕ) {end : ℕ} {line : Line} {after : List Line} (e : drop i (linesOf s) ≡ line ∷ after)
+module _ (s : List ℕ) {l l′ : List ℕ} (i : ℕ) {end : ℕ} {line : Shown} {after : List Shown} (e : drop i (linesOf s) ≡ line ∷ after)
     (p : Put l 0 (bytesOf (take i (linesOf s))) l′ end) where
   pub line-room : Roomy s l → end + lineRoom ≤ length l′
   line-room roomy =
@@ -85,7 +85,7 @@ module _ (s : List ℕ) {l l′ : List ℕ} (i : ℕ) {end : ℕ} {line : Line} 
         length-sets l 0 (bytesOf (take i (linesOf s))),
       )
 
-  pub next-put : {l″ : List ℕ} {end′ : ℕ} → Put l′ end (textOf line) l″ end′ → Put l 0 (bytesOf (take (i + 1) (linesOf s))) l″ end′
+  pub next-put : {l″ : List ℕ} {end′ : ℕ} → Put l′ end (shownText line) l″ end′ → Put l 0 (bytesOf (take (i + 1) (linesOf s))) l″ end′
   next-put q = rw (bytes-next i (linesOf s) e) (put-then p q)
 
 -- where the loop stands, after `made` of its draws: l was the buffer, l′ is it now, with lines up to `end`
@@ -133,7 +133,7 @@ module _ {s l l′ : List ℕ} {draws : ℕ} {net : Net} {made end : ℕ} (w : S
       made-step : (drawOn rules net d .made ≡ step ∷ []) × (drawOn rules net d .net ≡ next)
       made-step = answer-made next e q
 
-      lines-on : drop made (linesOf s) ≡ stepLine net step ∷ linesLeft (inputOpening s .map) next (made + 1) (drop (made + 1) (drawsIn s draws))
+      lines-on : drop made (linesOf s) ≡ stepShown net step ∷ linesLeft (inputOpening s .map) next (made + 1) (drop (made + 1) (drawsIn s draws))
       lines-on =
           w .left
           ∙ goes-on (inputOpening s .map) net made (drawsIn s draws) below step (rw (← the-draw) (made-step .0))
@@ -143,7 +143,7 @@ module _ {s l l′ : List ℕ} {draws : ℕ} {net : Net} {made end : ℕ} (w : S
       pub step-room : Roomy s l → end + lineRoom ≤ length l′
       step-room roomy = line-room s made lines-on (w .put) roomy
 
-      pub stands-next : {l″ : List ℕ} {end′ : ℕ} → Put l′ end (textOf (stepLine net step)) l″ end′ → Stands s draws l l″ next (made + 1) end′
+      pub stands-next : {l″ : List ℕ} {end′ : ℕ} → Put l′ end (shownText (stepShown net step)) l″ end′ → Stands s draws l l″ next (made + 1) end′
       stands-next p =
           record {
             few = omega arith;
@@ -156,7 +156,7 @@ module _ {s l l′ : List ℕ} {m : Map} {draws made end : ℕ} (o : Opens s m d
   pub closing-room : Roomy s l → end + lineRoom ≤ length l′
   closing-room = line-room s made (w .closing) (w .put)
 
-  pub closing-fills : Roomy s l → {l″ : List ℕ} {r : ℕ} → Put l′ end (textOf (closingLine m made)) l″ r → Filled s l l″ r
+  pub closing-fills : Roomy s l → {l″ : List ℕ} {r : ℕ} → Put l′ end (shownText (closingLine m made)) l″ r → Filled s l l″ r
   closing-fills roomy p =
       let whole : take (made + 1) (linesOf s) ≡ linesOf s =
       take-all (made + 1) (linesOf s) (omega (arith, ap length (w .closing), length-drop made (linesOf s))) in

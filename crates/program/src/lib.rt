@@ -2,6 +2,8 @@
 // bytes for an input, and `run` reads an input and writes them.
 mod streams;
 
+use aggregate::Aggregate;
+use aggregate::Config;
 use linemap::Map;
 use opening::OpenAnswer;
 use rendezvous::Net;
@@ -16,13 +18,20 @@ ghost use Prim.Native.Nat.{_+_, _<_, _≤_};
 ghost use lib.ListN.{length};
 ghost use Rattle.topology.specs.Answer.{accepted};
 ghost use Rattle.linemap.specs.Maps.{acceptance, linkCount};
-ghost use Rattle.text.specs.Text.{textOf, lineRoom, over};
+ghost use Rattle.text.specs.Text.{lineRoom, over};
 ghost use Rattle.text.specs.internal.Putting.{Put};
-ghost use Rattle.program.specs.Output.{stepLine, closingLine, outputRoom, outputIn};
+ghost use Rattle.program.specs.Output.{shownText, stepLine, stepShown, plain, closingLine, outputRoom, outputIn};
 ghost use Rattle.program.specs.internal.Filling.{Opens, Roomy, StepsPut, Filled};
 
 // Room for every output: 64 stations all linked take 4,033 steps, and a closing line.
 pub const OUTPUT_ROOM: usize = 4034 * text::LINE_ROOM;
+
+// A line, and beside it what an answer or a report carries, of the classes in use under `config`.
+pub struct Shown {
+    pub line: Line,
+    pub config: Config,
+    pub held: Aggregate,
+}
 
 // How many steps were made, and the place after their lines.
 struct Steps {
@@ -31,28 +40,54 @@ struct Steps {
 }
 
 // Puts a line from `at` on, and answers the place after it.
-fn put_line_at(out: &mut [u8], at: usize, line: Line) -> usize
+fn put_line_at(out: &mut [u8], at: usize, shown: Shown) -> usize
     requires { ⌜ at + lineRoom ≤ length (now out) ⌝ }
-    ensures { λ r. ⌜ Put (now (out .entry)) at (textOf line) (now (out .exit)) r ⌝ }
+    ensures { λ r. ⌜ Put (now (out .entry)) at (shownText shown) (now (out .exit)) r ⌝ }
 {
-    let n = text::put_line(&mut out[at..], line);
+    let line = shown.line;
+    let config = shown.config;
+    let held = shown.held;
+    let n = text::put_line(&mut out[at..], line, config, held);
     at + n
 }
 
-// The line of a step in this net.
-fn step_line(net: Net, step: Step) -> Line
-    requires { ⌜ step .sender < 64 ⌝ }
-    ensures { λ r. ⌜ r ≡ stepLine net step ⌝ }
+// The line of a step.
+fn step_line(step: Step) -> Line
+    ensures { λ r. ⌜ r ≡ stepLine step ⌝ }
 {
     let kind = step.kind;
-    let at = step.sender as usize;
-    let sender = net.stations[at];
-    let held = sender.held;
     match kind {
         rendezvous::WAKE => Line::Wake(step.sender, step.receiver),
         rendezvous::PASS => Line::Pass(step.sender, step.receiver),
-        rendezvous::ANSWER => Line::Answer(step.sender, step.receiver, held),
-        _ => Line::Report(step.sender, held),
+        rendezvous::ANSWER => Line::Answer(step.sender, step.receiver),
+        _ => Line::Report(step.sender),
+    }
+}
+
+// The line of a step in this net, beside what its sender holds.
+fn show_step(net: Net, step: Step) -> Shown
+    requires { ⌜ step .sender < 64 ⌝ }
+    ensures { λ r. ⌜ r ≡ stepShown net step ⌝ }
+{
+    let at = step.sender as usize;
+    let sender = net.stations[at];
+    let config = net.config;
+    let held = sender.held;
+    Shown {
+        line: step_line(step),
+        config: config,
+        held: held,
+    }
+}
+
+// A line that carries nothing.
+fn plain(m: Map, line: Line) -> Shown
+    ensures { λ r. ⌜ r ≡ plain m line ⌝ }
+{
+    Shown {
+        line: line,
+        config: linemap::config(m),
+        held: aggregate::empty(),
     }
 }
 
@@ -69,15 +104,16 @@ fn count_links(m: Map) -> u32
 }
 
 // The closing line of an accepted map's run.
-fn closing_line(m: Map, steps: u16) -> Line
+fn closing_line(m: Map, steps: u16) -> Shown
     requires { ⌜ acceptance m ≡ accepted ⌝ }
     ensures { λ r. ⌜ r ≡ closingLine m steps ⌝ }
 {
-    Line::Closing {
+    let line = Line::Closing {
         lot: m.lot,
         steps: steps as u64,
         links: count_links(m),
-    }
+    };
+    plain(m, line)
 }
 
 // Puts the lines of the steps, until the draws are used up or the net is quiescent (01: at rest).
@@ -97,7 +133,7 @@ fn put_steps(input: &[u8], m: Map, draws: u16, out: &mut [u8]) -> Steps
         let Answer::Made(step) = answer else {
             break;
         };
-        end = put_line_at(out, end, step_line(here, step));
+        end = put_line_at(out, end, show_step(here, step));
         let next = drawn.net;
         net = next;
         made += 1;
@@ -129,11 +165,9 @@ pub fn put_output(input: &[u8], out: &mut [u8]) -> usize
     }
     let opened = opening::open(input);
     let answer = opened.answer;
+    let map = opened.map;
     match answer {
-        OpenAnswer::Refused(fault) => put_line_at(out, 0, opening::refusal_line(fault)),
-        OpenAnswer::Opened(draws) => {
-            let map = opened.map;
-            put_lot(input, map, draws, out)
-        }
+        OpenAnswer::Refused(fault) => put_line_at(out, 0, plain(map, opening::refusal_line(fault))),
+        OpenAnswer::Opened(draws) => put_lot(input, map, draws, out),
     }
 }

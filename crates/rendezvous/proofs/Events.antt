@@ -10,8 +10,8 @@ use lib.Dec.{eqb}
 use borrow.Author.Tests.{lt-ltb, eq-eqb, ne-eqb, eqb-true, eqb-false, not-true}
 use Rattle.finite.proofs.Cases.{by-bool, by-eq, and-both, or-left, or-right}
 use Rattle.bitset.proofs.Laws.{within-lt, within-width}
-use Rattle.aggregate.specs.Aggregate.{rootOf, bounded}
-use Rattle.aggregate.proofs.Laws.{nothing-bounded, root-below, root-any-k, joined-any-k, bounded-any-k}
+use Rattle.aggregate.specs.Aggregate.{rootOf, bounded, clipped}
+use Rattle.aggregate.proofs.Laws.{valid-parts, nothing-bounded, root-below, root-alike, joined-alike, joined-clipped, bounded-alike, clipped-bounded}
 use Rattle.station.specs.declared.Station.{Station}
 use Rattle.station.specs.declared.Process.{Process}
 use Rattle.station.specs.Events.{asleep, active, maySendStart, startSent, answerTaken, startedBy, mayReport, mayAnswer, ready, ended}
@@ -19,7 +19,7 @@ use Rattle.station.specs.Form.{processConfig, wellFormedProcess}
 use Rattle.station.specs.Process.{EventOutcome, decide, takeStart, sendStart, takeAnswer, sendAnswer}
 use Rattle.station.specs.Process as process
 use Rattle.station.proofs.Formed.{facts, well-formed}
-use Rattle.stations.specs.Stations.{blank}
+use Rattle.stations.specs.Stations.{noStation}
 use Rattle.stations.proofs.Laws.{config-valid}
 use Rattle.rendezvous.specs.declared.Net.{Net}
 use Rattle.rendezvous.specs.Net.{station, wellFormed, withTwo}
@@ -56,24 +56,24 @@ eqb-comm a b = by-eq a b (λ e. eq-eqb a b e ∙ sym (eq-eqb b a (sym e))) (λ n
 module _ (net : Net) (f : wellFormed net ≡ true) (full : length (net .stations) ≡ 64) where
   -- a station by itself has the net's root, though 64 stands for k
   same-root : (i : ℕ) → rootOf (processConfig (processAt net i)) ≡ rootOf (net .config)
-  same-root i = root-any-k 64 (net .config .k)
+  same-root i = root-alike (processConfig (processAt net i)) (net .config)
 
   -- a station of the net is a well-formed process of its own
   process-formed : (i : ℕ) → i < net .config .k → wellFormedProcess (processAt net i) ≡ true
-  unfolding wellFormedProcess
+  unfolding wellFormedProcess wellFormed
   process-formed i l =
       let t = net .config in
       let most = k-most net f in
       let w = facts t i (station net i) (formed-at net f i l) in
       let inside : i < 64 = omega arith in
-      rw (lt-ltb i 64 inside)
+      rw (valid-parts t (config-valid t (net .stations) f) .1, lt-ltb i 64 inside)
       (well-formed (processConfig (processAt net i)) i (station net i)
       (record {
         state-le = w .state-le;
         parent-below = omega (arith, w .parent-below);
         set-within = within-width (t .k) 64 (station net i .unstarted) (within-lt (t .k) (station net i .unstarted) (w .set-within)) most;
         waits-le = w .waits-le;
-        held-bounded = bounded-any-k (processConfig (processAt net i)) t (station net i .held) ∙ w .held-bounded;
+        held-bounded = bounded-alike (processConfig (processAt net i)) t refl (station net i .held) ∙ w .held-bounded;
         not-in-set = w .not-in-set;
         own-parent = λ e. w .own-parent e ∙ sym (same-root i);
       }))
@@ -146,7 +146,8 @@ module _ (net : Net) (f : wellFormed net ≡ true) (full : length (net .stations
     unfolding sendAnswer
     sends-answer = rw (← same-guard) (decided _ _ _ _ _ (process-formed j lj) refl refl)
 
-    given-held : mayAnswer (net .config) j (station net j) ≡ true → sendAnswer (processAt net j) .given ≡ station net j .held
+    given-held : mayAnswer (net .config) j (station net j) ≡ true
+        → sendAnswer (processAt net j) .given ≡ clipped (processConfig (processAt net j)) (station net j .held)
     unfolding sendAnswer decide
     given-held g = rw (process-formed j lj, same-guard ∙ g)
 
@@ -156,7 +157,7 @@ module _ (net : Net) (f : wellFormed net ≡ true) (full : length (net .stations
         let t = processConfig (processAt net i) in
         let held = facts (net .config) j (station net j) (formed-at net f j lj) .held-bounded in
         by-bool (mayAnswer (net .config) j (station net j))
-        (λ g. rw (process-formed j lj, same-guard ∙ g) (bounded-any-k t (net .config) (station net j .held) ∙ held))
+        (λ g. rw (process-formed j lj, same-guard ∙ g) (clipped-bounded t (station net j .held) ∙ bounded-alike t (net .config) refl (station net j .held) ∙ held))
         (λ g. rw (process-formed j lj, same-guard ∙ g) (nothing-bounded t))
 
     takes-answer : let v = sendAnswer (processAt net j) .given in
@@ -178,7 +179,8 @@ module _ (net : Net) (f : wellFormed net ≡ true) (full : length (net .stations
         (rw (eqb-comm i j) guard)
         (λ m.
         let sent = and-both (not (eqb j i) && fit) send (and-both (not (eqb j i) && fit && send) state (sym guard ∙ m) .0) .1 in
-        rw (given-held sent, joined-any-k (net .config) (processConfig (processAt net i)) (r .held) (s .held)))
+        let t = processConfig (processAt net i) in
+        rw (given-held sent, joined-clipped t (r .held) (s .held), joined-alike (net .config) t refl (r .held) (s .held)))
 
   root-inside : rootOf (net .config) < net .config .k
   unfolding wellFormed
@@ -200,7 +202,7 @@ module _ (net : Net) (f : wellFormed net ≡ true) (full : length (net .stations
       record {
         allowed = guard ∙ sym (reports-event .accepted);
         reporter = λ m.
-            getD-set-same (net .stations) root (ended (station net root)) blank (rw full inside)
+            getD-set-same (net .stations) root (ended (station net root)) noStation (rw full inside)
             ∙ sym (reports-event .leaves (sym guard ∙ m));
       }
 

@@ -5,7 +5,8 @@ use mathlib.Core.List.{[], _∷_, _++_, flatMap}
 use lib.ListN.{replicate}
 use Rattle.finite.specs.Below.{allBelow, each, tabulate}
 use Rattle.bitset.specs.Set.{member, membersBelow, size, without, within}
-use Rattle.aggregate.specs.Aggregate.{rootOf, valid, bounded, gathered}
+use Rattle.aggregate.specs.Aggregate.{rootOf, valid, nothing, cellBounded, bounded, cellGathered, gathered}
+use Rattle.aggregate.proofs.Examples.{only}
 use Rattle.refusal.specs.declared.Refusal.the-variants.{NotAllowed}
 use Rattle.station.specs.Form as form
 use Rattle.schedule.specs.Rules.{inRange, allowed}
@@ -13,36 +14,36 @@ use Rattle.schedule.specs.Listing.{range, select, candidates, listed, step}
 use Rattle.schedule.specs.Listing as listing
 use Rattle.schedule.specs.Outcome.{stepMade, stepRefused}
 use Rattle.schedule.specs.Draws.{stepOn}
-use Rattle.stations.specs.Stations.{blank, areWellFormed, freshStation, freshStations}
+use Rattle.stations.specs.Stations.{blank, areWellFormed, readingAt, freshStation, freshStations}
 use Rattle.rendezvous.specs.declared.Net.{Net}
 use Rattle.rendezvous.specs.Net.{wellFormed, freshNet}
 use Rattle.rendezvous.specs.Figure.{wake, report, mayStep, assigned}
 use Rattle.rendezvous.specs.Rules.{rules}
 
 abbrev triangle : Net
-triangle = freshNet (record { k = 3 }) (5 ∷ 7 ∷ 11 ∷ []) (6 ∷ 5 ∷ 3 ∷ [])
+triangle = freshNet (record { k = 3; classes = 1 }) ((5 ∷ replicate 7 0) ++ (7 ∷ replicate 7 0) ++ (11 ∷ [])) (6 ∷ 5 ∷ 3 ∷ [])
 
 first-steps : listed rules triangle ≡ step wake 0 1 ∷ step wake 0 2 ∷ []
-unfolding listed select candidates range listing.numbersFrom flatMap allowed inRange mayStep freshNet freshStations freshStation tabulate each member membersBelow size rootOf gathered
+unfolding listed select candidates range listing.numbersFrom flatMap allowed inRange mayStep freshNet freshStations freshStation readingAt tabulate each member membersBelow size rootOf gathered cellGathered
 first-steps = refl
 
 -- station 1 has the root for its parent, has to start station 2, and waits for it
 abbrev woken : Net
 woken =
     record {
-      config = record { k = 3 };
+      config = record { k = 3; classes = 1 };
       stations =
-          (record { held = record { sum = 5; missing = 0 }; unstarted = 4; parent = 0; waits = 2; state = 1 }
-          ∷ record { held = record { sum = 7; missing = 0 }; unstarted = 4; parent = 0; waits = 1; state = 1 }
-          ∷ record { held = record { sum = 11; missing = 0 }; unstarted = 3; parent = 0; waits = 2; state = 0 }
+          (record { held = only 5; unstarted = 4; parent = 0; waits = 2; state = 1 }
+          ∷ record { held = only 7; unstarted = 4; parent = 0; waits = 1; state = 1 }
+          ∷ record { held = only 11; unstarted = 3; parent = 0; waits = 2; state = 0 }
           ∷ [])
           ++ replicate 61 blank;
     }
 
 first-wake : stepOn rules triangle (step wake 0 1) ≡ stepMade (step wake 0 1) woken
-unfolding stepOn wellFormed areWellFormed form.wellFormed allBelow inRange mayStep assigned freshNet freshStations freshStation tabulate each member membersBelow size without within rootOf valid bounded gathered
+unfolding stepOn wellFormed areWellFormed form.wellFormed allBelow inRange mayStep assigned freshNet freshStations freshStation readingAt tabulate each member membersBelow size without within rootOf valid bounded cellBounded gathered cellGathered nothing
 first-wake = refl
 
 too-early : stepOn rules triangle (step report 0 0) ≡ stepRefused NotAllowed triangle
-unfolding stepOn wellFormed areWellFormed form.wellFormed allBelow inRange mayStep freshNet freshStations freshStation tabulate each member membersBelow size within rootOf valid bounded gathered
+unfolding stepOn wellFormed areWellFormed form.wellFormed allBelow inRange mayStep freshNet freshStations freshStation readingAt tabulate each member membersBelow size within rootOf valid bounded cellBounded gathered cellGathered
 too-early = refl

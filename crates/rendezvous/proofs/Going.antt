@@ -20,7 +20,7 @@ use Rattle.bitset.proofs.Unions.{put-set}
 use Rattle.aggregate.specs.Aggregate.{bounded, joinable}
 use Rattle.station.specs.declared.Station.{Station}
 use Rattle.station.specs.Events.{asleep, active}
-use Rattle.stations.specs.Stations.{blank}
+use Rattle.stations.specs.Stations.{noStation}
 use Rattle.schedule.specs.declared.Step.{Step}
 use Rattle.schedule.specs.declared.rows.Drawn.{Drawn}
 use Rattle.schedule.specs.declared.rows.Drawn.the-variants as drawn
@@ -56,10 +56,10 @@ pub record Known (net : Net) (kept : List ℕ) (states : States) : Type 0 where
 -- one station comes to be s
 module _ (net : Net) (few : net .config .k ≤ 64) (full : length (net .stations) ≡ 64) (j : ℕ) (low : j < net .config .k) (s : Station) where
   own : station (withOne net j s) j ≡ s
-  own = getD-set-same (net .stations) j s blank (omega (arith, full, low, few))
+  own = getD-set-same (net .stations) j s noStation (omega (arith, full, low, few))
 
   other : (x : ℕ) → (x ≡ j → ⊥) → station (withOne net j s) x ≡ station net x
-  other x n = getD-set-other (net .stations) j x s blank n
+  other x n = getD-set-other (net .stations) j x s noStation n
 
   in-state-one : (state : ℕ) → put j (eqb (s .state) state) (inState net state) ≡ inState (withOne net j s) state
   unfolding inState

@@ -14,7 +14,7 @@ use Rattle.schedule.specs.declared.Step.{Step}
 use Rattle.schedule.specs.Calls.{Call, callsMade, callsNet}
 use Rattle.schedule.proofs.Listing.{range-bounds, listed-allowed}
 use Rattle.schedule.proofs.Made.{Listed, calls-make}
-use Rattle.stations.specs.Stations.{blank}
+use Rattle.stations.specs.Stations.{noStation}
 use Rattle.rendezvous.specs.declared.Net.{Net}
 use Rattle.rendezvous.specs.Net.{station, withTwo}
 use Rattle.rendezvous.specs.Figure.{wake, pass, answer, assigned}
@@ -24,13 +24,13 @@ use Rattle.schedule.proofs.Answers.{allowed-parts}
 -- two stations replaced
 module _ (net : Net) (j i : ℕ) (s r : Station) where
   pub two-sender : j < length (net .stations) → (j ≡ i → ⊥) → station (withTwo net j s i r) j ≡ s
-  two-sender l apart = getD-set-other (set (net .stations) j s) i j r blank apart ∙ getD-set-same (net .stations) j s blank l
+  two-sender l apart = getD-set-other (set (net .stations) j s) i j r noStation apart ∙ getD-set-same (net .stations) j s noStation l
 
   pub two-receiver : i < length (net .stations) → station (withTwo net j s i r) i ≡ r
-  two-receiver l = getD-set-same (set (net .stations) j s) i r blank (simp length-set l)
+  two-receiver l = getD-set-same (set (net .stations) j s) i r noStation (simp length-set l)
 
   two-other : (x : ℕ) → (x ≡ j → ⊥) → (x ≡ i → ⊥) → station (withTwo net j s i r) x ≡ station net x
-  two-other x p q = getD-set-other (set (net .stations) j s) i x r blank q ∙ getD-set-other (net .stations) j x s blank p
+  two-other x p q = getD-set-other (set (net .stations) j s) i x r noStation q ∙ getD-set-other (net .stations) j x s noStation p
 
 module _ (net : Net) (kind j i : ℕ) where
   pub config-kept : assigned net kind j i .config ≡ net .config
@@ -47,7 +47,7 @@ module _ (net : Net) (kind j i : ℕ) where
       by-bool (eqb kind wake) (λ w. rw w (two-other net j i _ _ x n m))
       (λ w. by-bool (eqb kind pass) (λ p. rw (w, p) (two-other net j i _ _ x n m))
       (λ p. by-bool (eqb kind answer) (λ a. rw (w, p, a) (two-other net j i _ _ x n m))
-      (λ a. rw (w, p, a) (getD-set-other (net .stations) j x _ blank n))))
+      (λ a. rw (w, p, a) (getD-set-other (net .stations) j x _ noStation n))))
 
 steps-kept : (steps : List Step) (net : Net) (x : ℕ) → net .config .k ≤ x → Runs (Listed rules) (rules .apply) net steps
     → station (reached (rules .apply) net steps) x ≡ station net x

@@ -13,7 +13,7 @@ freshOn m = freshNet (configOf m) (m .counts) (m .neighbours)
 
 -- the net handed back with a refusal: of no stations
 abbrev pub emptyNet : Net
-emptyNet = record { config = record { k = 0 }; stations = replicate 64 blank }
+emptyNet = record { config = record { k = 0; classes = 0 }; stations = replicate 64 blank }
 
 -- "a map handed over goes 3, 7 to 10" (Causes and numbers)
 abbrev pub rendezvousOpening : Map → Opening Net

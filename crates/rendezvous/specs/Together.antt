@@ -15,7 +15,7 @@ use Rattle.rendezvous.specs.Figure.{wake, pass, answer, report, mayStep,
 
 -- station i of the net, by itself
 abbrev pub processAt : Net → ℕ → Process
-processAt net i = record { own = i; station = station net i }
+processAt net i = record { own = i; classes = net .config .classes; station = station net i }
 
 -- an event that no number refuses
 abbrev pub isDone : process.EventOutcome → Bool

@@ -67,7 +67,7 @@ fn unopened() -> Net
     let none = stations::blank();
     let stations = [none; 64];
     Net {
-        config: Config { k: 0 },
+        config: Config { k: 0, classes: 0 },
         stations: stations,
     }
 }

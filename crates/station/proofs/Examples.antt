@@ -2,8 +2,10 @@
 use mathlib.Core.Path.{_≡_, refl}
 use mathlib.Core.Bool.{false}
 use Prim.Native.Nat.{_-_, _^_}
+use Rattle.finite.specs.Below.{allBelow, each, tabulate}
 use Rattle.aggregate.specs.declared.Aggregate.{Aggregate}
-use Rattle.aggregate.specs.Aggregate.{rootOf, bounded, joined}
+use Rattle.aggregate.specs.Aggregate.{rootOf, cellBounded, bounded, cellJoined, joined}
+use Rattle.aggregate.proofs.Examples.{only}
 use Rattle.refusal.specs.declared.Refusal.the-variants.{NotAllowed}
 use Rattle.bitset.specs.Set.{member, membersBelow, size, without, within}
 use Rattle.station.specs.declared.Process.{Process}
@@ -13,30 +15,30 @@ use Rattle.station.specs.Process.{done, eventRefused, decide, takeStart,
 
 -- asleep, as the fresh net has it
 abbrev sleeping : Process
-sleeping = record { own = 1; station = record { held = record { sum = 7; missing = 0 }; unstarted = 5; parent = 0; waits = 2; state = 0 } }
+sleeping = record { own = 1; classes = 1; station = record { held = only 7; unstarted = 5; parent = 0; waits = 2; state = 0 } }
 
 -- woken by the root: it still has to start station 2, and waits for its message
 abbrev waiting : Process
-waiting = record { own = 1; station = record { held = record { sum = 7; missing = 0 }; unstarted = 4; parent = 0; waits = 1; state = 1 } }
+waiting = record { own = 1; classes = 1; station = record { held = only 7; unstarted = 4; parent = 0; waits = 1; state = 1 } }
 
 wakes : takeStart 0 sleeping ≡ done waiting
-unfolding takeStart decide wellFormedProcess wellFormed startedBy member membersBelow size without within bounded rootOf
+unfolding takeStart decide wellFormedProcess wellFormed startedBy member membersBelow size without within bounded cellBounded allBelow tabulate each rootOf
 wakes = refl
 
 -- no answer while a start is unsent
 not-yet : sendAnswer waiting ≡ eventRefused NotAllowed waiting
-unfolding sendAnswer decide wellFormedProcess wellFormed mayAnswer ready member within bounded rootOf
+unfolding sendAnswer decide wellFormedProcess wellFormed mayAnswer ready member within bounded cellBounded allBelow tabulate each rootOf
 not-yet = refl
 
 -- a start from itself is accepted, and leaves the form
 own-start : (takeStart 1 sleeping .number ≡ 0) × (wellFormedProcess (takeStart 1 sleeping .process) ≡ false)
-unfolding takeStart decide wellFormedProcess wellFormed startedBy member membersBelow size without within bounded rootOf
+unfolding takeStart decide wellFormedProcess wellFormed startedBy member membersBelow size without within bounded cellBounded allBelow tabulate each rootOf
 own-start = (refl, refl)
 
 -- so is an answer that makes the sum 2^62
 abbrev large : Aggregate
-large = record { sum = 2 ^ 62 - 7; missing = 0 }
+large = only (2 ^ 62 - 7)
 
 large-answer : (takeAnswer large waiting .number ≡ 0) × (wellFormedProcess (takeAnswer large waiting .process) ≡ false)
-unfolding takeAnswer decide wellFormedProcess wellFormed member within bounded joined rootOf
+unfolding takeAnswer decide wellFormedProcess wellFormed member within bounded cellBounded joined cellJoined allBelow tabulate each rootOf
 large-answer = (refl, refl)

@@ -1,14 +1,14 @@
 -- What the events of a process do, over the four outcomes of `decide`: what they leave in form, what they do not touch, and that a
 -- refusal leaves the process. Assumes nothing.
 use mathlib.Core.Path.{_≡_, refl, _∙_}
-use mathlib.Core.Bool.{true, false}
+use mathlib.Core.Bool.{true, false, _&&_}
 use Prim.Native.Nat.{ℕ, _<_}
 use native.Mathlib.Omega.{arith}
 use lib.Dec.{eqb, ltb}
 use borrow.Author.Tests.{ltb-true, lt-ltb, eq-eqb, ne-eqb}
 use Rattle.finite.proofs.Cases.{by-bool, and-both, eqb-self}
 use Rattle.aggregate.specs.declared.Aggregate.{Aggregate}
-use Rattle.aggregate.specs.Aggregate.{rootOf, bounded, joined}
+use Rattle.aggregate.specs.Aggregate.{rootOf, isClassCount, bounded, joined}
 use Rattle.station.specs.declared.Station.{Station}
 use Rattle.station.specs.declared.Process.{Process}
 use Rattle.station.specs.Events.{asleep, active, woken, startedBy}
@@ -18,19 +18,24 @@ use Rattle.station.proofs.Formed.{woken-formed, answer-taken-formed, st
 use Rattle.station.proofs.Outcomes.{decide-holds, decide-leaves}
 
 module _ (p : Process) where
-  -- the two parts of the form
-  pub own-below : wellFormedProcess p ≡ true → p .own < 64
+  -- the three parts of the form
+  parts : wellFormedProcess p ≡ true → (isClassCount (p .classes) ≡ true) × (ltb (p .own) 64 ≡ true) × (wellFormed (processConfig p) (p .own) (p .station) ≡ true)
   unfolding wellFormedProcess
-  own-below h = ltb-true (p .own) 64 (and-both (ltb (p .own) 64) (wellFormed (processConfig p) (p .own) (p .station)) h .0)
+  parts h =
+      let last = and-both (isClassCount (p .classes) && ltb (p .own) 64) (wellFormed (processConfig p) (p .own) (p .station)) h in
+      let first = and-both (isClassCount (p .classes)) (ltb (p .own) 64) (last .0) in
+      (first .0, first .1, last .1)
+
+  pub own-below : wellFormedProcess p ≡ true → p .own < 64
+  own-below h = ltb-true (p .own) 64 (parts h .1)
 
   pub station-formed : wellFormedProcess p ≡ true → wellFormed (processConfig p) (p .own) (p .station) ≡ true
-  unfolding wellFormedProcess
-  station-formed h = and-both (ltb (p .own) 64) (wellFormed (processConfig p) (p .own) (p .station)) h .1
+  station-formed h = parts h .2
 
   -- the process after an event is in form just where its station is
   after-formed : (s : Station) → wellFormedProcess p ≡ true → wellFormedProcess (after p s) ≡ wellFormed (processConfig p) (p .own) s
   unfolding wellFormedProcess
-  after-formed s h = rw (lt-ltb (p .own) 64 (own-below h))
+  after-formed s h = rw (parts h .0, parts h .1)
 
   -- Form. Each event keeps it, but two that leave it: a start that a sleeping station takes from itself, unless it is the root, and
   -- an answer that makes the sum too large.
@@ -85,20 +90,20 @@ module _ (p : Process) where
   report-formed h = decide-holds (λ q. wellFormedProcess q ≡ true) _ _ _ p _ h (λ f r a. gives-formed h)
 
 -- Parts of a process, for what an event does not touch.
-abbrev pub own-and-sum : Process → ℕ × Aggregate
-own-and-sum p = (p .own, p .station .held)
+abbrev pub own-and-sum : Process → ℕ × ℕ × Aggregate
+own-and-sum p = (p .own, p .classes, p .station .held)
 
-abbrev pub but-waits : Process → ℕ × Aggregate × ℕ × ℕ × ℕ
-but-waits p = (p .own, p .station .held, p .station .unstarted, p .station .parent, p .station .state)
+abbrev pub but-waits : Process → ℕ × ℕ × Aggregate × ℕ × ℕ × ℕ
+but-waits p = (p .own, p .classes, p .station .held, p .station .unstarted, p .station .parent, p .station .state)
 
-abbrev pub but-set : Process → ℕ × Aggregate × ℕ × ℕ × ℕ
-but-set p = (p .own, p .station .held, p .station .parent, p .station .waits, p .station .state)
+abbrev pub but-set : Process → ℕ × ℕ × Aggregate × ℕ × ℕ × ℕ
+but-set p = (p .own, p .classes, p .station .held, p .station .parent, p .station .waits, p .station .state)
 
-abbrev pub but-sum-and-waits : Process → ℕ × ℕ × ℕ × ℕ
-but-sum-and-waits p = (p .own, p .station .unstarted, p .station .parent, p .station .state)
+abbrev pub but-sum-and-waits : Process → ℕ × ℕ × ℕ × ℕ × ℕ
+but-sum-and-waits p = (p .own, p .classes, p .station .unstarted, p .station .parent, p .station .state)
 
-abbrev pub but-state : Process → ℕ × Aggregate × ℕ × ℕ × ℕ
-but-state p = (p .own, p .station .held, p .station .unstarted, p .station .parent, p .station .waits)
+abbrev pub but-state : Process → ℕ × ℕ × Aggregate × ℕ × ℕ × ℕ
+but-state p = (p .own, p .classes, p .station .held, p .station .unstarted, p .station .parent, p .station .waits)
 
 -- An event changes only what its line names, accepted or refused; a refusal changes nothing.
 module _ (p : Process) where

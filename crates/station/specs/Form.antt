@@ -3,7 +3,7 @@ use Prim.Native.Nat.{ℕ}
 use mathlib.Core.Bool.{Bool, not, _&&_, _||_}
 use lib.Dec.{eqb, leb, ltb}
 use Rattle.aggregate.specs.declared.Config.{Config}
-use Rattle.aggregate.specs.Aggregate.{rootOf, bounded}
+use Rattle.aggregate.specs.Aggregate.{rootOf, isClassCount, bounded}
 use Rattle.bitset.specs.Set.{member, within}
 use Rattle.station.specs.declared.Station.{Station}
 use Rattle.station.specs.declared.Process.{Process}
@@ -18,8 +18,9 @@ wellFormed t i s =
 
 -- "For one station 64 stands for k"
 abbrev pub processConfig : Process → Config
-processConfig p = record { k = 64 }
+processConfig p = record { k = 64; classes = p .classes }
 
--- "and its own number is below 64"
+-- "and its own number is below 64"; "a net or station with such a c is out of form" (document 02, request 2)
 unfoldable pub wellFormedProcess : Process → Bool
-wellFormedProcess p = ltb (p .own) (processConfig p .k) && wellFormed (processConfig p) (p .own) (p .station)
+wellFormedProcess p =
+    isClassCount (p .classes) && ltb (p .own) (processConfig p .k) && wellFormed (processConfig p) (p .own) (p .station)

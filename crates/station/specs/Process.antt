@@ -5,7 +5,7 @@ use mathlib.Core.List.{List, [], _∷_}
 use lib.Dec.{eqb, ltb}
 use Rattle.finite.specs.Tests.{unless}
 use Rattle.aggregate.specs.declared.Aggregate.{Aggregate}
-use Rattle.aggregate.specs.Aggregate.{bounded, nothing}
+use Rattle.aggregate.specs.Aggregate.{bounded, clipped, nothing}
 use Rattle.refusal.specs.declared.Refusal.{Refusal}
 use Rattle.refusal.specs.declared.Refusal.the-variants.{OutOfForm, OutOfRange, NotAllowed}
 use Rattle.refusal.specs.Refusal.{numberOf}
@@ -40,15 +40,17 @@ eventRefused r p = record { number = numberOf r; values = []; given = nothing; p
 
 -- the process after an event at its station
 abbrev pub after : Process → Station → Process
-after p s = record { own = p .own; station = s }
+after p s = record { own = p .own; classes = p .classes; station = s }
 
 -- an accepted event that gives nothing
 abbrev pub done : Process → EventOutcome
 done p = record { number = 0; values = []; given = nothing; process = p }
 
--- "becomes finished and gives parent and sum"
+-- "becomes finished and gives parent and sum"; what it gives has zero past c (document 02, request 2)
 abbrev pub gives : Process → EventOutcome
-gives p = record { number = 0; values = p .station .parent ∷ []; given = p .station .held; process = after p (ended (p .station)) }
+gives p =
+    let given = clipped (processConfig p) (p .station .held) in
+    record { number = 0; values = p .station .parent ∷ []; given = given; process = after p (ended (p .station)) }
 
 -- the order of the refusals: form 11, range 12, allowed 13, else the event is accepted
 unfoldable pub decide : Bool → Bool → Bool → Process → EventOutcome → EventOutcome

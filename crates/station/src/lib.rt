@@ -34,6 +34,7 @@ pub struct Station {
 #[repr(C)]
 pub struct Process {
     pub own: u8,
+    pub classes: u8,
     pub station: Station,
 }
 
@@ -98,18 +99,23 @@ impl Station {
         next
     }
 
-    // Line 3: an answer v was taken; the station as it was where one of the sums is not bounded.
+    // Line 3: an answer v was taken; the station as it was where what it holds or v is not bounded.
     pub fn answer_taken(self, t: Config, v: Aggregate) -> Station
         ensures { λ r. ⌜ r ≡ cond (joinable t (self .held) v) (Events.answerTaken t v self) self ⌝ }
     {
         let held = self.held;
-        if !aggregate::is_joinable(t, held, v) {
+        let joined = aggregate::join(t, held, v);
+        if !joined.bounded {
             return self;
         }
-        let mut next = self;
-        next.held = aggregate::join(t, held, v);
-        next.waits = less_one(self.waits);
-        next
+        let both = joined.held;
+        Station {
+            held: both,
+            unstarted: self.unstarted,
+            parent: self.parent,
+            waits: less_one(self.waits),
+            state: self.state,
+        }
     }
 
     // Line 4: a start was taken when active.
@@ -197,7 +203,10 @@ impl Process {
     fn config(self) -> Config
         ensures { λ r. ⌜ r ≡ processConfig self ⌝ }
     {
-        Config { k: 64 }
+        Config {
+            k: 64,
+            classes: self.classes,
+        }
     }
 
     pub fn is_well_formed(self) -> bool
@@ -206,7 +215,7 @@ impl Process {
         let t = self.config();
         let own = self.own;
         let s = self.station;
-        (own < t.k) & s.is_well_formed(t, own)
+        aggregate::is_class_count(t.classes as u64) & (own < t.k) & s.is_well_formed(t, own)
     }
 
     // The process at another station, and nothing given.
@@ -220,12 +229,13 @@ impl Process {
             },
             process: Process {
                 own: self.own,
+                classes: self.classes,
                 station: station,
             },
         }
     }
 
-    // The end of its part: parent and sum are given.
+    // The end of its part: its parent and what it has gathered are given.
     fn gives(self) -> Event
         ensures { λ r. ⌜ Rules.eventOutcomeOf (r .reply) (r .process) ≡ Rules.gives self ⌝ }
     {
@@ -234,10 +244,11 @@ impl Process {
         Event {
             reply: Reply {
                 answer: Answer::Gives(s.parent),
-                given: held,
+                given: aggregate::clip(self.config(), held),
             },
             process: Process {
                 own: self.own,
+                classes: self.classes,
                 station: s.ended(),
             },
         }

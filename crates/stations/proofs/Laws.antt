@@ -4,7 +4,7 @@
 use mathlib.Core.Path.{_≡_, sym, _∙_, ap}
 use mathlib.Core.Bool.{true, cond}
 use mathlib.Core.List.{List}
-use Prim.Native.Nat.{ℕ, _≤_, _<_}
+use Prim.Native.Nat.{ℕ, _+_, _*_, _≤_, _<_}
 use native.Mathlib.Omega.{arith}
 use lib.ListN.{length, getD, set}
 use lib.Seq.{set-out, getD-set-same, getD-set-other}
@@ -15,12 +15,12 @@ use Rattle.finite.proofs.Cases.{by-bool, and-both}
 use Rattle.finite.proofs.Below.{all-below-at, all-below-one, getD-tabulate}
 use Rattle.bitset.specs.Set.{size}
 use Rattle.aggregate.specs.declared.Config.{Config}
-use Rattle.aggregate.specs.Aggregate.{rootOf, valid, bounded, gathered}
+use Rattle.aggregate.specs.Aggregate.{rootOf, valid, used, bounded, gathered}
 use Rattle.station.specs.declared.Station.{Station}
 use Rattle.station.specs.Events.{asleep, active}
 use Rattle.station.specs.Form.{wellFormed}
 use Rattle.station.proofs.Formed.{facts}
-use Rattle.stations.specs.Stations.{stationAt, areWellFormed, blank, freshStation, freshStations}
+use Rattle.stations.specs.Stations.{noStation, stationAt, areWellFormed, readingAt, freshStation, freshStations}
 
 module _ (t : Config) (stations : List Station) (h : areWellFormed t stations ≡ true) where
   parts : (valid t ≡ true) × (allBelow (t .k) (λ i. wellFormed t i (stationAt stations i)) ≡ true)
@@ -46,8 +46,8 @@ module _ (t : Config) (stations : List Station) (h : areWellFormed t stations �
     replaced-formed m =
         rw config-valid
         (all-below-one (λ x. wellFormed t x (stationAt (set stations i s) x)) (t .k) i l
-        (λ x h n. ap (wellFormed t x) (getD-set-other stations i x s blank n) ∙ well-formed-at x h)
-        ∙ ap (wellFormed t i) (getD-set-same stations i s blank m))
+        (λ x h n. ap (wellFormed t x) (getD-set-other stations i x s noStation n) ∙ well-formed-at x h)
+        ∙ ap (wellFormed t i) (getD-set-same stations i s noStation m))
 
     pub replaced-kept : wellFormed t i s ≡ true → areWellFormed t (set stations i s) ≡ true
     replaced-kept f =
@@ -59,15 +59,21 @@ module _ (t : Config) (stations : List Station) (h : areWellFormed t stations �
     replaced-bounded f =
         by-bool (ltb i (length stations))
         (λ m. let inside = ltb-true i (length stations) m in
-        replaced-formed inside ∙ f ∙ ap (λ (x : Station). bounded t (x .held)) (sym (getD-set-same stations i s blank inside)))
+        replaced-formed inside ∙ f ∙ ap (λ (x : Station). bounded t (x .held)) (sym (getD-set-same stations i s noStation inside)))
         (λ m. let same = set-out stations i s (ltb-false i (length stations) m) in
         ap (areWellFormed t) same ∙ h ∙ sym (ap (λ (x : List Station). bounded t (stationAt x i .held)) same ∙ held-bounded-at i l))
+
+-- a count of a class in use
+pub count-of : (t : Config) (counts : List ℕ) (i j : ℕ) → j < used t → getD (readingAt t counts i .counts) j 0 ≡ getD counts (8 * i + j) 0
+unfolding readingAt
+count-of t counts i j l =
+    getD-tabulate (λ n. cond (ltb n (used t)) (getD counts (8 * i + n) 0) 0) 8 j 0 (omega arith) ∙ rw (lt-ltb j (used t) l)
 
 -- the fresh station of a place below k
 pub fresh-at : (t : Config) (counts neighbours : List ℕ) (i : ℕ) → t .k ≤ 64 → i < t .k
     → stationAt (freshStations t counts neighbours) i
     ≡ record {
-      held = gathered t (record { count = getD counts i 0 });
+      held = gathered t (readingAt t counts i);
       unstarted = getD neighbours i 0;
       parent = rootOf t;
       waits = size (getD neighbours i 0);
@@ -75,5 +81,5 @@ pub fresh-at : (t : Config) (counts neighbours : List ℕ) (i : ℕ) → t .k �
     }
 unfolding freshStations freshStation
 fresh-at t counts neighbours i most below =
-    getD-tabulate (λ i. freshStation t (getD counts i 0) (getD neighbours i 0) i) 64 i blank (omega arith)
+    getD-tabulate (λ i. freshStation t (readingAt t counts i) (getD neighbours i 0) i) 64 i noStation (omega arith)
     ∙ rw (lt-ltb i (t .k) below)

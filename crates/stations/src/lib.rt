@@ -4,6 +4,7 @@ use aggregate::Reading;
 use schedule::Step;
 use station::Station;
 ghost use mathlib.Core.Path.{_≡_};
+ghost use Prim.Native.Nat.{_<_};
 ghost use Rattle.schedule.specs.Rules.{stepInRange};
 ghost use Rattle.stations.specs.Stations as Rules;
 
@@ -20,15 +21,31 @@ pub fn blank() -> Station
     }
 }
 
-// Station i before the first step, of its count and its neighbours.
-fn fresh_station(t: Config, count: u32, neighbours: u64, i: u8) -> Station
-    ensures { λ r. ⌜ r ≡ Rules.freshStation t count neighbours i ⌝ }
+// The counts of station i, of a map's counts: eight places a station, of which those of the classes in use are read.
+fn reading_at(t: Config, counts: &[u32; 512], i: u8) -> Reading
+    requires { ⌜ i < 64 ⌝ }
+    ensures { λ r. ⌜ r ≡ Rules.readingAt t (now (counts .entry)) i ⌝ }
+{
+    let c = aggregate::count_used(t);
+    let at = 8 * (i as usize);
+    let mut own = [0u32; 8];
+    let mut j: usize = 0;
+    while j < c {
+        own[j] = counts[at + j];
+        j += 1;
+    }
+    Reading { counts: own }
+}
+
+// Station i before the first step, of its counts and its neighbours.
+fn fresh_station(t: Config, reading: Reading, neighbours: u64, i: u8) -> Station
+    ensures { λ r. ⌜ r ≡ Rules.freshStation t reading neighbours i ⌝ }
 {
     if t.k <= i {
         return blank();
     }
     let root = aggregate::root(t);
-    let held = aggregate::gather(t, Reading { count: count });
+    let held = aggregate::gather(t, reading);
     let state = if i == root {
         station::ACTIVE
     } else {
@@ -44,7 +61,7 @@ fn fresh_station(t: Config, count: u32, neighbours: u64, i: u8) -> Station
 }
 
 // All stations before the first step.
-pub fn fresh_stations(t: Config, counts: [u32; 64], neighbours: [u64; 64]) -> [Station; 64]
+pub fn fresh_stations(t: Config, counts: [u32; 512], neighbours: [u64; 64]) -> [Station; 64]
     ensures { λ r. ⌜ r ≡ Rules.freshStations t counts neighbours ⌝ }
 {
     let empty = blank();
@@ -52,13 +69,13 @@ pub fn fresh_stations(t: Config, counts: [u32; 64], neighbours: [u64; 64]) -> [S
     let mut i: u8 = 0;
     while i < 64 {
         let at = i as usize;
-        stations[at] = fresh_station(t, counts[at], neighbours[at], i);
+        stations[at] = fresh_station(t, reading_at(t, &counts, i), neighbours[at], i);
         i += 1;
     }
     stations
 }
 
-// Whether k is in its bounds and every station below it is well-formed.
+// Whether k and c are in their bounds and every station below k is well-formed.
 pub fn are_well_formed(t: Config, stations: [Station; 64]) -> bool
     ensures { λ r. ⌜ r ≡ Rules.areWellFormed t stations ⌝ }
 {

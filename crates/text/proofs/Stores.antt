@@ -1,13 +1,16 @@
--- The laws of `Put`, a run of bytes stored: one after another, a byte, one byte more of a word, from the front; and of the room for it.
+-- The laws of `Put`, a run of bytes stored: one after another, a byte, one byte more of a word, one piece more, from the front; and of the
+-- room for it.
 -- Assumes nothing.
 use mathlib.Core.Path.{_≡_, refl, ap, sym, _∙_}
 use mathlib.Core.List.{List, [], _∷_, _++_}
-use Prim.Native.Nat.{ℕ, suc, _+_, _<_}
+use Prim.Native.Nat.{ℕ, zero, suc, _+_, _≤_, _<_}
 use native.Mathlib.Nat.{zero-add, add-zero, add-suc, suc-add}
 use native.Mathlib.Numerals.{add-one}
 use native.Mathlib.Omega.{arith}
 use lib.ListN.{length, set, take, getD, length-append}
 use lib.Seq.{sets, sets-eq, length-sets, length-take-le, take-suc}
+use Rattle.finite.specs.Below.{each}
+use Rattle.finite.proofs.Cases.{by-eq}
 use Rattle.text.specs.Text.{over}
 use Rattle.text.specs.internal.Putting.{Room, Put}
 
@@ -52,3 +55,18 @@ put-more {l} {l′} {at} word i h p =
     let next = put-then p (put-one l′ (at + i) byte) in
     let more : take i word ++ (byte ∷ []) ≡ take (i + 1) word = sym (take-suc word i 0 h) ∙ rw add-one in
     record { bytes = next .bytes ∙ ap (sets l at) more; end = omega (arith, length-take-le (i + 1) word (omega arith)) }
+
+-- room for the first n pieces is room for fewer of them, and one piece more is put after those before it
+module _ {l : List ℕ} {at : ℕ} (f : ℕ → List ℕ) where
+  room-fewer : (n i : ℕ) → i ≤ n → Room l at (each f n) → Room l at (each f i)
+  unfolding each
+  room-fewer zero i h room = let e : i ≡ zero = omega arith in rw e room
+  room-fewer (suc n) i h room = by-eq i (suc n) (λ e. rw e room) (λ e. room-fewer n i (omega arith) (room-first (f n) room))
+
+  pub room-piece : {l′ : List ℕ} {n i r : ℕ} → i < n → Room l at (each f n) → Put l at (each f i) l′ r → Room l′ r (f i)
+  unfolding each
+  room-piece {l′} {n} {i} h room p = room-next (room-fewer n (suc i) h room) p
+
+  pub put-piece : {l₁ l₂ : List ℕ} {i r₁ r₂ : ℕ} → Put l at (each f i) l₁ r₁ → Put l₁ r₁ (f i) l₂ r₂ → Put l at (each f (i + 1)) l₂ r₂
+  unfolding each
+  put-piece {l₁} {l₂} {i} p q = rw (add-one i) (put-then p q)

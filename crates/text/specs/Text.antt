@@ -5,8 +5,11 @@ use Prim.Native.Nat.{ℕ, zero, suc, _+_, _/_, _%_}
 use Prim.Native.Char.{code}
 use lib.Dec.{ltb, leb}
 use lib.ListN.{length, drop}
+use Rattle.finite.specs.Below.{each}
+use Rattle.aggregate.specs.declared.Config.{Config}
+use Rattle.aggregate.specs.declared.Cell.{Cell}
 use Rattle.aggregate.specs.declared.Aggregate.{Aggregate}
-use Rattle.aggregate.specs.Aggregate.{sumOf, missingOf}
+use Rattle.aggregate.specs.Aggregate.{used, cell}
 use Rattle.text.specs.declared.Line.{Line}
 use Rattle.text.specs.Ascii.{ascii}
 use Rattle.text.specs.declared.Line.the-variants.{Wake, Pass, Answer, Report, Closing, Refused, RefusedStation}
@@ -24,33 +27,38 @@ digits (suc f) n = cond (ltb n 10) (digit n) (digits f (n / 10) ++ digit (n % 10
 unfoldable pub item : List ℕ → ℕ → List ℕ
 item word n = word ++ digits 20 n
 
--- what an answer or a report carries: the sum, then "Answer and report lines end with" the missing number (document 02, request 1)
-unfoldable pub aggregateText : Aggregate → List ℕ
-aggregateText a = item (ascii " ") (sumOf a) ++ item (ascii " ") (missingOf a)
+-- one class: the sum, then "Answer and report lines end with" the missing number (document 02, request 1)
+unfoldable pub cellText : Cell → List ℕ
+cellText x = item (ascii " ") (x .sum) ++ item (ascii " ") (x .missing)
 
+-- what an answer or a report carries: "Lines show sum and missing number for each class in turn" (document 02, request 2)
+unfoldable pub aggregateText : Config → Aggregate → List ℕ
+aggregateText t v = each (λ i. cellText (cell v i)) (used t)
+
+-- a line, with what an answer or a report carries:
 -- "Wake and pass show sender, receiver; answer adds the sum; report shows the desk, the total."
 -- "a closing line with the lot, the steps made and m"
 -- "A refusal prints `refused N`, for 7 to 10 `refused N station I`"
-abbrev pub wordsOf : Line → List ℕ
-wordsOf (Wake sender receiver) = item (ascii "wake ") sender ++ item (ascii " ") receiver
-wordsOf (Pass sender receiver) = item (ascii "pass ") sender ++ item (ascii " ") receiver
-wordsOf (Answer sender receiver a) = item (ascii "answer ") sender ++ item (ascii " ") receiver ++ aggregateText a
-wordsOf (Report root a) = item (ascii "report ") root ++ aggregateText a
-wordsOf (Closing lot steps links) = item (ascii "lot ") lot ++ item (ascii " steps ") steps ++ item (ascii " links ") links
-wordsOf (Refused number) = item (ascii "refused ") number
-wordsOf (RefusedStation number station) = item (ascii "refused ") number ++ item (ascii " station ") station
+abbrev pub wordsOf : Config → Aggregate → Line → List ℕ
+wordsOf t v (Wake sender receiver) = item (ascii "wake ") sender ++ item (ascii " ") receiver
+wordsOf t v (Pass sender receiver) = item (ascii "pass ") sender ++ item (ascii " ") receiver
+wordsOf t v (Answer sender receiver) = item (ascii "answer ") sender ++ item (ascii " ") receiver ++ aggregateText t v
+wordsOf t v (Report root) = item (ascii "report ") root ++ aggregateText t v
+wordsOf t v (Closing lot steps links) = item (ascii "lot ") lot ++ item (ascii " steps ") steps ++ item (ascii " links ") links
+wordsOf t v (Refused number) = item (ascii "refused ") number
+wordsOf t v (RefusedStation number station) = item (ascii "refused ") number ++ item (ascii " station ") station
 
 -- a line ends with a line feed
-unfoldable pub textOf : Line → List ℕ
-textOf line = wordsOf line ++ ascii "\n"
+unfoldable pub textOf : Config → Aggregate → Line → List ℕ
+textOf t v line = wordsOf t v line ++ ascii "\n"
 
 -- every line fits into so many bytes
 abbrev pub lineRoom : ℕ
-lineRoom = 100
+lineRoom = 400
 
 -- what is put into a buffer of n bytes: the line, or nothing where not every line would fit
-unfoldable pub textIn : ℕ → Line → List ℕ
-textIn n line = cond (leb lineRoom n) (textOf line) []
+unfoldable pub textIn : ℕ → Config → Aggregate → Line → List ℕ
+textIn n t v line = cond (leb lineRoom n) (textOf t v line) []
 
 -- the buffer after: these bytes at its start, and the rest as it was
 abbrev pub over : List ℕ → List ℕ → List ℕ

@@ -1,26 +1,28 @@
 // The lines of the program's output, as bytes (document 01, "The program").
 use aggregate::Aggregate;
+use aggregate::Cell;
+use aggregate::Config;
 ghost use mathlib.Core.Path.{_≡_};
 ghost use mathlib.Core.List.{_++_};
 ghost use lib.ListN.{length};
-ghost use Rattle.text.specs.Text.{digits, item, aggregateText, wordsOf, textIn, over};
+ghost use Rattle.text.specs.Text.{digits, item, cellText, aggregateText, wordsOf, textIn, over};
 ghost use Rattle.text.specs.internal.Putting.{Room, Put};
 
+// What an answer or a report carries stands beside its line: an enum holds no array.
 pub enum Line {
     // Sender and receiver.
     Wake(u8, u8),
     Pass(u8, u8),
-    // Sender, receiver, and what the sender answers.
-    Answer(u8, u8, Aggregate),
-    // The root (01: the desk), and what it reports.
-    Report(u8, Aggregate),
+    Answer(u8, u8),
+    // The root (01: the desk).
+    Report(u8),
     Closing { lot: u32, steps: u64, links: u32 },
     Refused(u8),
     RefusedStation(u8, u8),
 }
 
 // Room for every line.
-pub const LINE_ROOM: usize = 100;
+pub const LINE_ROOM: usize = 400;
 
 const MOST_DIGITS: u8 = 20;
 
@@ -62,52 +64,69 @@ fn put_item(buf: &mut [u8], at: usize, word: &[u8], n: u64) -> usize
     put_number(buf, end, n, MOST_DIGITS)
 }
 
-// Two words, each with a number, from the start of buf.
-fn put_two(buf: &mut [u8], a: &[u8], x: u64, b: &[u8], y: u64) -> usize
-    requires { ⌜ Room (now buf) 0 (item (now a) x ++ item (now b) y) ⌝ }
-    ensures { λ r. ⌜ Put (now (buf .entry)) 0 (item (now (a .entry)) x ++ item (now (b .entry)) y) (now (buf .exit)) r ⌝ }
+// Two words, each with a number.
+fn put_two(buf: &mut [u8], at: usize, a: &[u8], x: u64, b: &[u8], y: u64) -> usize
+    requires { ⌜ Room (now buf) at (item (now a) x ++ item (now b) y) ⌝ }
+    ensures { λ r. ⌜ Put (now (buf .entry)) at (item (now (a .entry)) x ++ item (now (b .entry)) y) (now (buf .exit)) r ⌝ }
 {
-    let end = put_item(buf, 0, a, x);
+    let end = put_item(buf, at, a, x);
     put_item(buf, end, b, y)
 }
 
-// What an answer or a report carries.
-fn put_aggregate(buf: &mut [u8], at: usize, a: Aggregate) -> usize
-    requires { ⌜ Room (now buf) at (aggregateText a) ⌝ }
-    ensures { λ r. ⌜ Put (now (buf .entry)) at (aggregateText a) (now (buf .exit)) r ⌝ }
+// One class: its sum, then its missing number.
+fn put_cell(buf: &mut [u8], at: usize, x: Cell) -> usize
+    requires { ⌜ Room (now buf) at (cellText x) ⌝ }
+    ensures { λ r. ⌜ Put (now (buf .entry)) at (cellText x) (now (buf .exit)) r ⌝ }
 {
-    let end = put_item(buf, at, b" ", aggregate::sum_of(a));
-    put_item(buf, end, b" ", aggregate::missing_of(a) as u64)
+    let sum = x.sum;
+    let missing = x.missing as u64;
+    put_two(buf, at, b" ", sum, b" ", missing)
+}
+
+// What an answer or a report carries: each class in use, in turn.
+fn put_aggregate(buf: &mut [u8], at: usize, t: Config, v: Aggregate) -> usize
+    requires { ⌜ Room (now buf) at (aggregateText t v) ⌝ }
+    ensures { λ r. ⌜ Put (now (buf .entry)) at (aggregateText t v) (now (buf .exit)) r ⌝ }
+{
+    let classes = aggregate::count_used(t);
+    let mut end = at;
+    let mut class: usize = 0;
+    while class < classes {
+        end = put_cell(buf, end, aggregate::class_of(v, class));
+        class += 1;
+    }
+    end
 }
 
 // The line, but for its line feed.
-fn put_words(buf: &mut [u8], line: Line) -> usize
-    requires { ⌜ Room (now buf) 0 (wordsOf line) ⌝ }
-    ensures { λ r. ⌜ Put (now (buf .entry)) 0 (wordsOf line) (now (buf .exit)) r ⌝ }
+fn put_words(buf: &mut [u8], line: Line, t: Config, v: Aggregate) -> usize
+    requires { ⌜ Room (now buf) 0 (wordsOf t v line) ⌝ }
+    ensures { λ r. ⌜ Put (now (buf .entry)) 0 (wordsOf t v line) (now (buf .exit)) r ⌝ }
 {
     match line {
         Line::Wake(sender, receiver) => {
-            put_two(buf, b"wake ", sender as u64, b" ", receiver as u64)
+            put_two(buf, 0, b"wake ", sender as u64, b" ", receiver as u64)
         }
         Line::Pass(sender, receiver) => {
-            put_two(buf, b"pass ", sender as u64, b" ", receiver as u64)
+            put_two(buf, 0, b"pass ", sender as u64, b" ", receiver as u64)
         }
-        Line::Answer(sender, receiver, a) => {
-            let end = put_two(buf, b"answer ", sender as u64, b" ", receiver as u64);
-            put_aggregate(buf, end, a)
+        Line::Answer(sender, receiver) => {
+            let end = put_two(buf, 0, b"answer ", sender as u64, b" ", receiver as u64);
+            put_aggregate(buf, end, t, v)
         }
-        Line::Report(root, a) => {
+        Line::Report(root) => {
             let end = put_item(buf, 0, b"report ", root as u64);
-            put_aggregate(buf, end, a)
+            put_aggregate(buf, end, t, v)
         }
         Line::Closing { lot, steps, links } => {
-            let end = put_two(buf, b"lot ", lot as u64, b" steps ", steps);
+            let end = put_two(buf, 0, b"lot ", lot as u64, b" steps ", steps);
             put_item(buf, end, b" links ", links as u64)
         }
         Line::Refused(number) => put_item(buf, 0, b"refused ", number as u64),
         Line::RefusedStation(number, station) => {
             put_two(
                 buf,
+                0,
                 b"refused ",
                 number as u64,
                 b" station ",
@@ -117,14 +136,15 @@ fn put_words(buf: &mut [u8], line: Line) -> usize
     }
 }
 
-// Puts the line at the start of buf and answers its length. A buf of under 100 bytes is left as it was, and the answer is 0.
-pub fn put_line(buf: &mut [u8], line: Line) -> usize
-    ensures count { λ r. ⌜ r ≡ length (textIn (length (now (buf .entry))) line) ⌝ }
-    ensures bytes { λ _. ⌜ now (buf .exit) ≡ over (textIn (length (now (buf .entry))) line) (now (buf .entry)) ⌝ }
+// Puts the line at the start of buf and answers its length: v is what an answer or a report carries, of the classes in use under t, and
+// other lines don't look at it. A buf of under 400 bytes is left as it was, and the answer is 0.
+pub fn put_line(buf: &mut [u8], line: Line, t: Config, v: Aggregate) -> usize
+    ensures count { λ r. ⌜ r ≡ length (textIn (length (now (buf .entry))) t v line) ⌝ }
+    ensures bytes { λ _. ⌜ now (buf .exit) ≡ over (textIn (length (now (buf .entry))) t v line) (now (buf .entry)) ⌝ }
 {
     if buf.len() < LINE_ROOM {
         return 0;
     }
-    let end = put_words(buf, line);
+    let end = put_words(buf, line, t, v);
     put_word(buf, end, b"\n")
 }

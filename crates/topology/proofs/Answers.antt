@@ -10,7 +10,7 @@ use Rattle.finite.proofs.Cases.{clash}
 use Rattle.topology.specs.Answer.{isAccepted}
 use Rattle.topology.specs.Acceptance.{faultNumbers, verdictNumbers, linksNumbers}
 use Rattle.topology.specs.declared.Fault.{Fault}
-use Rattle.topology.specs.declared.Fault.the-variants.{Stations, Beyond, Itself, OneWay, Apart}
+use Rattle.topology.specs.declared.Fault.the-variants.{Classes, Stations, Beyond, Itself, OneWay, Apart}
 use Rattle.topology.specs.declared.Verdict.{Verdict}
 use Rattle.topology.specs.declared.LinksAnswer.{LinksAnswer}
 use Rattle.topology.specs.declared.Verdict.the-variants as verdict
@@ -20,12 +20,14 @@ use Rattle.topology.specs.declared.LinksAnswer.the-variants as links
 abbrev pub faultFrom : List ℕ → Fault
 faultFrom [] = Stations
 faultFrom (n ∷ v) =
-    cond (eqb n 7) (Beyond (getD v 0 0))
+    cond (eqb n 2) Classes
+    (cond (eqb n 7) (Beyond (getD v 0 0))
     (cond (eqb n 8) (Itself (getD v 0 0))
     (cond (eqb n 9) (OneWay (getD v 0 0))
-    (cond (eqb n 10) (Apart (getD v 0 0)) Stations)))
+    (cond (eqb n 10) (Apart (getD v 0 0)) Stations))))
 
 fault-again : (f : Fault) → faultFrom (faultNumbers f) ≡ f
+fault-again Classes = refl
 fault-again Stations = refl
 fault-again (Beyond i) = refl
 fault-again (Itself i) = refl
@@ -37,6 +39,7 @@ fault-pins f g e = sym (fault-again f) ∙ ap faultFrom e ∙ fault-again g
 
 -- no refusal is an acceptance
 pub fault-refuses : (f : Fault) → isAccepted (faultNumbers f) ≡ false
+fault-refuses Classes = refl
 fault-refuses Stations = refl
 fault-refuses (Beyond i) = refl
 fault-refuses (Itself i) = refl

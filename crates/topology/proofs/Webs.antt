@@ -28,7 +28,7 @@ below-power zero = omega arith
 below-power (suc n) = omega (arith, below-power n, pow-suc 2 n)
 
 -- what is accepted passed the first test, and the rest accepts it
-passed : (b : Bool) (f : Fault) (rest : List ℕ) → isAccepted (unless b (faultNumbers f) rest) ≡ true
+pub passed : (b : Bool) (f : Fault) (rest : List ℕ) → isAccepted (unless b (faultNumbers f) rest) ≡ true
     → (b ≡ true) × (isAccepted rest ≡ true)
 passed true f rest e = (refl, e)
 passed false f rest e = clash e (fault-refuses f)

@@ -10,15 +10,16 @@ use Rattle.bitset.specs.Set.{isStationCount, member, within}
 use Rattle.topology.specs.Answer.{accepted, isAccepted}
 use Rattle.finite.specs.Tests.{unless}
 use Rattle.topology.specs.declared.Fault.{Fault}
-use Rattle.topology.specs.declared.Fault.the-variants.{Stations, Beyond, Itself, OneWay, Apart}
+use Rattle.topology.specs.declared.Fault.the-variants.{Classes, Stations, Beyond, Itself, OneWay, Apart}
 use Rattle.topology.specs.declared.Verdict.{Verdict}
 use Rattle.topology.specs.declared.LinksAnswer.{LinksAnswer}
 use Rattle.topology.specs.declared.Verdict.the-variants as verdict
 use Rattle.topology.specs.declared.LinksAnswer.the-variants as answer
 
--- "Causes and numbers": the number of each refusal, with the station where one is returned. `verdict-pins` and `links-pins`
--- (proofs/Answers) say that the numbers tell the answers apart.
+-- "Causes and numbers": the number of each refusal, with the station where one is returned; "A map handed over with c not 1 to 8 gets 2"
+-- (document 02, request 2). `verdict-pins` and `links-pins` (proofs/Answers) say that the numbers tell the answers apart.
 abbrev pub faultNumbers : Fault → List ℕ
+faultNumbers Classes = 2 ∷ []
 faultNumbers Stations = 3 ∷ []
 faultNumbers (Beyond i) = 7 ∷ i ∷ []
 faultNumbers (Itself i) = 8 ∷ i ∷ []

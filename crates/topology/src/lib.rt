@@ -16,6 +16,8 @@ mod matrix;
 
 // Why a map is refused; a case holds the lowest offender.
 pub enum Fault {
+    // A line map's class count is not 1 to 8. No set shows it: the answers here have no such case.
+    Classes,
     // No station, or more than 64.
     Stations,
     // Its set names a station of k or more.

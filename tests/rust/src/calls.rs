@@ -1,12 +1,14 @@
 //! The calls that the model and the proved library both answer. A test is written once, against these.
 
+use crate::model::aggregate::Aggregate;
 use crate::model::map::{self, Map};
 use crate::model::net::{Net, Run, Step};
 use crate::model::refusal::{number, Refusal};
-use crate::model::station::{Answer, Event, Process};
+use crate::model::station::{Event, Process};
 
 pub trait StationCalls {
-    fn event(&self, process: &mut Process, event: Event) -> Result<Option<Answer>, Refusal>;
+    /// An answer and a report give the parent, and beside it what they bring it; any other event, and a refusal, brings nothing.
+    fn event(&self, process: &mut Process, event: Event) -> (Result<Option<u8>, Refusal>, Aggregate);
 }
 
 /// Lent memory is a parameter also where a call only fills it: a refusal must leave it.
@@ -70,8 +72,10 @@ impl Reply {
 pub struct Model;
 
 impl StationCalls for Model {
-    fn event(&self, process: &mut Process, event: Event) -> Result<Option<Answer>, Refusal> {
-        process.event(event)
+    fn event(&self, process: &mut Process, event: Event) -> (Result<Option<u8>, Refusal>, Aggregate) {
+        let answer = process.event(event);
+        let given = answer.ok().flatten().map_or(Aggregate::default(), |answer| answer.gathered);
+        (answer.map(|answer| answer.map(|answer| answer.parent)), given)
     }
 }
 

@@ -1,16 +1,18 @@
 //! Document 01's "Edges" and its example of the program's output, with the lines and the largest total of document 02,
-//! request 1, and that request's own edges, for any subject.
+//! request 1, and the edges of requests 1 and 2, for any subject.
 
 use crate::calls::{MapCalls, NetCalls, StationCalls};
 use crate::gen::map::all_linked;
 use crate::gen::net::Sample;
-use crate::model::aggregate::Aggregate;
+use crate::gen::station::events;
+use crate::model::aggregate::{Aggregate, Cell};
 use crate::model::demand::Record;
 use crate::model::map::{stored, Map};
 use crate::model::meet::{Meet, ANSWER, PASS, REPORT, WAKE};
 use crate::model::net::{Net, Step};
 use crate::model::refusal::{number, Cause, Refusal};
-use crate::model::station::{Event, Process, Station, ACTIVE};
+use crate::model::station::{Event, Process, Station, ACTIVE, FINISHED};
+use crate::model::{CLASSES, PLACES};
 
 const TRIANGLE_OUTPUT: &str = "\
 wake 0 1
@@ -35,6 +37,18 @@ report 0 16 1
 lot 42 steps 7 links 3
 ";
 
+/// The triangle with two classes.
+const TWO_CLASSES_OUTPUT: &str = "\
+wake 0 1
+wake 0 2
+pass 1 2
+pass 2 1
+answer 1 0 7 0 0 1
+answer 2 0 11 0 3 0
+report 0 23 0 7 1
+lot 42 steps 7 links 3
+";
+
 const TRIANGLE_CHECK_WORD: u32 = 4_294_180_746;
 
 /// The head "sends 4294967295 when its lamp failed"; the count before it is the largest reading.
@@ -43,35 +57,53 @@ const LARGEST_COUNT: u32 = 4_294_967_294;
 
 const LARGEST_TOTAL: u64 = 274_877_906_816;
 
-fn map_of(lot: u32, rows: &[(u32, u64)]) -> Map {
-    let mut map = Map::empty(rows.len() as u8, lot);
-    for (i, &(count, neighbours)) in rows.iter().enumerate() {
-        map.counts[i] = count;
+/// The counts of a station, and its set.
+type Row<const C: usize> = ([u32; C], u64);
+
+fn map_of<const C: usize>(lot: u32, rows: &[Row<C>]) -> Map {
+    let mut map = Map::empty(rows.len() as u8, C as u8, lot);
+    for (i, &(counts, neighbours)) in rows.iter().enumerate() {
+        map.counts[i][..C].copy_from_slice(&counts);
         map.neighbours[i] = neighbours;
     }
     map
 }
 
 fn alone() -> Map {
-    map_of(1, &[(9, 0)])
+    map_of(1, &[([9], 0)])
 }
 
 fn pair() -> Map {
-    map_of(2, &[(3, 2), (4, 1)])
+    map_of(2, &[([3], 2), ([4], 1)])
 }
 
 fn triangle() -> Map {
-    map_of(42, &[(5, 6), (7, 5), (11, 3)])
+    map_of(42, &[([5], 6), ([7], 5), ([11], 3)])
 }
 
 /// The triangle where station 1 has no reading.
 fn lamp_failed() -> Map {
-    map_of(42, &[(5, 6), (NO_READING, 5), (11, 3)])
+    map_of(42, &[([5], 6), ([NO_READING], 5), ([11], 3)])
 }
 
-/// A sum and a missing number.
-fn held((sum, missing): (u64, u8)) -> Aggregate {
-    Aggregate { sum, missing }
+/// The triangle with a second class, in which station 1 has no reading.
+fn two_classes() -> Map {
+    map_of(42, &[([5, 4], 6), ([7, NO_READING], 5), ([11, 3], 3)])
+}
+
+/// The triangle with the classes of the growers: stem punctures, finger bruises and russet.
+fn three_classes() -> Map {
+    map_of(42, &[([5, NO_READING, 2], 6), ([7, 1, NO_READING], 5), ([11, 3, NO_READING], 3)])
+}
+
+/// A sum and a missing number for each class, zero past them.
+fn held<const C: usize>(cells: [(u64, u8); C]) -> Aggregate {
+    Aggregate::of(cells.map(|(sum, missing)| Cell { sum, missing }))
+}
+
+/// A record of station 1 that waits for nothing.
+fn active(classes: u8, held: Aggregate) -> Process {
+    Process { own: 1, classes, station: Station { held, unstarted: 0, parent: 0, waits: 0, state: ACTIVE } }
 }
 
 /// One station: missing numbers at their bound, in a record and handed over. "A missing number above 64 is out of form;
@@ -90,86 +122,283 @@ pub fn stations(subject: &impl StationCalls) {
         (255, 65, 11, 255),
     ];
     for (before, handed_over, due, after) in taken {
-        let station = |held| Station { held, unstarted: 0, parent: 0, waits: 0, state: ACTIVE };
-        let mut process = Process { own: 1, station: station(held((7, before))) };
-        let answer = subject.event(&mut process, Event::TakeAnswer(held((11, handed_over))));
-        assert_eq!(number(&answer), due, "{before} takes {handed_over}");
-        assert_eq!(process.station, station(held((if due == 0 { 18 } else { 7 }, after))));
+        let record = held([(7, before)]);
+        let left = held([(if due == 0 { 18 } else { 7 }, after)]);
+        takes(subject, active(1, record), held([(11, handed_over)]), due, left);
+    }
+    classes_of_a_station(subject);
+    what_is_given(subject);
+    no_class_count(subject);
+}
+
+fn takes(subject: &impl StationCalls, mut process: Process, answer: Aggregate, due: u8, left: Aggregate) {
+    let before = process;
+    let (taken, _) = subject.event(&mut process, Event::TakeAnswer(answer));
+    assert_eq!(number(&taken), due, "{before:?} takes {answer:?}");
+    assert_eq!(process, active(before.classes, left), "{before:?} takes {answer:?}");
+}
+
+/// Each class is joined with its own and tested by itself; past c any numbers may stand, and stay.
+fn classes_of_a_station(subject: &impl StationCalls) {
+    const BELOW: u64 = (1 << 62) - 1;
+    const BEYOND: u64 = 1 << 62;
+    let record = held([(7, 1), (0, 64), (BEYOND, 65), (u64::MAX, 255)]);
+    let left = |first, second| held([first, second, (BEYOND, 65), (u64::MAX, 255)]);
+    // of two classes, what is handed over, its number, and the first two classes of the record left
+    let taken = [
+        (held([(11, 2), (5, 0)]), 0, ((18, 3), (5, 64))),
+        (held([(11, 2), (5, 0), (u64::MAX, 255), (BEYOND, 65)]), 0, ((18, 3), (5, 64))),
+        (held([(BELOW, 64), (BELOW, 1)]), 0, ((BELOW + 7, 65), (BELOW, 65))),
+        (held([(BEYOND, 0), (0, 0)]), 12, ((7, 1), (0, 64))),
+        (held([(0, 0), (BEYOND, 0)]), 12, ((7, 1), (0, 64))),
+        (held([(0, 0), (0, 65)]), 12, ((7, 1), (0, 64))),
+        (held([(0, 255), (0, 0)]), 12, ((7, 1), (0, 64))),
+    ];
+    for (answer, due, (first, second)) in taken {
+        takes(subject, active(2, record), answer, due, left(first, second));
+    }
+    takes(subject, active(3, record), held([(0, 0)]), 11, record);
+    takes(subject, active(2, held([(0, 0), (0, 65)])), held([(0, 0)]), 11, held([(0, 0), (0, 65)]));
+    takes(subject, active(2, held([(0, 0), (BEYOND, 0)])), held([(0, 0)]), 11, held([(0, 0), (BEYOND, 0)]));
+}
+
+/// "What a station gives or posts has zero there"; the record keeps what it has, and a refusal gives nothing.
+fn what_is_given(subject: &impl StationCalls) {
+    let cells = [(5, 0), (0, 1), (1 << 62, 65), (9, 9)];
+    for (own, event, refused) in [(0, Event::Report, Event::SendAnswer), (1, Event::SendAnswer, Event::Report)] {
+        let mut process = Process { own, ..active(2, held(cells)) };
+        let before = process;
+        let nothing = Aggregate::default();
+        assert_eq!(subject.event(&mut process, refused), (Err(Cause::NotAllowed.alone()), nothing));
+        assert_eq!(process, before);
+        assert_eq!(subject.event(&mut process, event), (Ok(Some(0)), held([(5, 0), (0, 1)])));
+        assert_eq!(process.station, Station { state: FINISHED, ..before.station });
+    }
+}
+
+/// "A net or station with such a c is out of form."
+fn no_class_count(subject: &impl StationCalls) {
+    for classes in [0, 9, 255] {
+        let mut process = active(classes, Aggregate::default());
+        for event in events(200, held([(1 << 62, 65)])) {
+            let nothing = Aggregate::default();
+            assert_eq!(subject.event(&mut process, event), (Err(Cause::OutOfForm.alone()), nothing));
+            assert_eq!(process, active(classes, nothing));
+        }
     }
 }
 
 /// Maps: what is refused, and with which station.
 pub fn maps(subject: &impl MapCalls) {
-    let rejected: [(&[(u32, u64)], Refusal); 4] = [
-        (&[(0, 1)], Cause::NamesItself.with(0)),
-        (&[(0, 0), (0, 0)], Cause::NoChain.with(1)),
-        (&[(0, 2), (0, 0)], Cause::NotMutual.with(0)),
-        (&[(0, 4), (0, 0)], Cause::NamesBeyond.with(0)),
+    let rejected: [(&[Row<1>], Refusal); 4] = [
+        (&[([0], 1)], Cause::NamesItself.with(0)),
+        (&[([0], 0), ([0], 0)], Cause::NoChain.with(1)),
+        (&[([0], 2), ([0], 0)], Cause::NotMutual.with(0)),
+        (&[([0], 4), ([0], 0)], Cause::NamesBeyond.with(0)),
     ];
     for (rows, refusal) in rejected {
         let map = map_of(0, rows);
-        assert_eq!(subject.accept(&map), Err(refusal));
-        assert_eq!(subject.links(&map), Err(refusal));
+        refused(subject, &map, refusal);
         assert_eq!(read(subject, &stored(&map)), Err(refusal));
     }
     assert_eq!(read(subject, &[0; 15]), Err(Cause::UnderTrailer.alone()));
-    assert_eq!(read(subject, &[0; 28]), Err(Cause::RowLength.alone()));
-    let links = [(alone(), 0), (pair(), 1), (triangle(), 3), (all_linked(LARGEST_COUNT), 2_016)];
+    assert_eq!(read(subject, &[0; 28]), Err(Cause::Classes.alone()));
+    let links = [(alone(), 0), (pair(), 1), (triangle(), 3), (all_linked(&[LARGEST_COUNT]), 2_016)];
     for (map, count) in links {
         assert_eq!(subject.links(&map), Ok(count));
     }
-    triangle_is_stored(subject);
+    is_stored(subject, &triangle(), 52, TRIANGLE_CHECK_WORD);
+    is_stored(subject, &two_classes(), 64, 4_293_918_584);
+    is_stored(subject, &three_classes(), 76, 4_293_656_431);
+    class_counts_handed_over(subject);
+    row_lengths(subject);
+    sizes(subject);
 }
 
+/// Every call on a map handed over refuses it alike.
+fn refused(subject: &impl MapCalls, map: &Map, refusal: Refusal) {
+    let mut buffer = [0xa5; 3_000];
+    assert_eq!(subject.accept(map), Err(refusal));
+    assert_eq!(subject.links(map), Err(refusal));
+    assert_eq!(subject.write(map, &mut buffer), Err(refusal));
+    assert_eq!(buffer, [0xa5; 3_000], "a refusal leaves the buffer");
+}
+
+/// Over a map with something in every place.
 fn read(subject: &impl MapCalls, bytes: &[u8]) -> Result<Map, Refusal> {
-    let mut map = Map::empty(0, 0);
-    subject.read(bytes, &mut map).map(|()| map)
+    let full = Map { k: 9, classes: 9, lot: 9, counts: [[9; CLASSES]; PLACES], neighbours: [9; PLACES] };
+    let mut map = full;
+    let result = subject.read(bytes, &mut map);
+    assert!(result.is_ok() || map == full, "a refusal leaves the map");
+    result.map(|()| map)
 }
 
-/// The check word that document 01 gives.
-fn triangle_is_stored(subject: &impl MapCalls) {
-    let mut buffer = [0; 52];
-    assert_eq!(subject.write(&triangle(), &mut buffer), Ok(52));
-    assert_eq!(buffer[48..], TRIANGLE_CHECK_WORD.to_le_bytes());
-    assert_eq!(read(subject, &buffer), Ok(triangle()));
+/// The length and the check word, that of the triangle as document 01 gives it.
+fn is_stored(subject: &impl MapCalls, map: &Map, length: usize, check_word: u32) {
+    let mut buffer = vec![0; length];
+    assert_eq!(subject.write(map, &mut buffer[..length - 1]), Err(Cause::BufferTooSmall.with(length as u32)));
+    assert_eq!(subject.write(map, &mut buffer), Ok(length as u32));
+    assert_eq!(buffer[length - 4..], check_word.to_le_bytes());
+    assert_eq!(read(subject, &buffer), Ok(*map));
+}
+
+/// "A map handed over with c not 1 to 8 gets 2, before 3."
+fn class_counts_handed_over(subject: &impl MapCalls) {
+    for classes in [0, 9, 255] {
+        for k in [0, 3, 64, 65, 255] {
+            refused(subject, &Map { k, classes, ..triangle() }, Cause::Classes.alone());
+        }
+    }
+    for k in [0, 65, 255] {
+        refused(subject, &Map { k, ..triangle() }, Cause::StationCount.alone());
+    }
+}
+
+/// One station, its counts and its trailer under every row length: 2 unless it is one of 12, 16, .. 40; then 4 where the
+/// distance goes by another, 5 where a byte of the rows is missing, else a map with as many counts.
+fn row_lengths(subject: &impl MapCalls) {
+    for row in [0, 8, 11, 12, 13, 14, 16, 20, 24, 28, 32, 36, 40, 44, 12 << 8, 256 + 12, 65_535] {
+        let is_one = (12..=40).contains(&row) && row % 4 == 0;
+        for distance in [row, 12, 40] {
+            let due = match (is_one, distance == row) {
+                (false, _) => Err(Cause::Classes.alone()),
+                (true, false) => Err(Cause::Distance.alone()),
+                (true, true) => Ok(((row - 8) / 4) as u8),
+            };
+            let bytes = one_row(row, distance);
+            let given = read(subject, &bytes);
+            assert_eq!(given.map(|map| map.classes), due, "row length {row}, distance {distance}");
+            if given.is_ok() {
+                assert_eq!(read(subject, &bytes[1..]), Err(Cause::RowsMissing.alone()));
+            }
+        }
+    }
+}
+
+/// A row of counts of 7 and an empty set, and a trailer; the words add to zero.
+fn one_row(row: u16, distance: u16) -> Vec<u8> {
+    let counts = if (8..100).contains(&row) { (usize::from(row) - 8) / 4 } else { 1 };
+    let mut bytes: Vec<u8> = [7u32.to_le_bytes()].repeat(counts).concat();
+    bytes.extend([0; 8]);
+    let words = [1 | u32::from(row) << 16, distance.into(), 42];
+    let sum = words.iter().fold(7 * counts as u32, |sum, word| sum.wrapping_add(*word));
+    bytes.extend(words.into_iter().chain([sum.wrapping_neg()]).flat_map(u32::to_le_bytes));
+    bytes
+}
+
+/// A count that says where it stands, and now and then no reading.
+fn count_at(station: usize, class: usize) -> u32 {
+    match (station + class) % 7 {
+        3 => NO_READING,
+        _ => (1_000 * station + class) as u32,
+    }
+}
+
+/// Stations in a row, by k and c.
+fn chain(k: usize, classes: usize) -> Map {
+    let mut map = Map::empty(k as u8, classes as u8, 42);
+    for i in 0..k {
+        map.counts[i][..classes].copy_from_slice(&Vec::from_iter((0..classes).map(|class| count_at(i, class))));
+        if i > 0 {
+            map.neighbours[i] |= 1 << (i - 1);
+            map.neighbours[i - 1] |= 1 << i;
+        }
+    }
+    map
+}
+
+/// Every c with the smallest and the largest k.
+fn every_size() -> impl Iterator<Item = (usize, usize)> {
+    [1, 2, 64].into_iter().flat_map(|k| (1..=8).map(move |classes| (k, classes)))
+}
+
+/// "Maps written are read back equal", with (8 + 4 × c) × k + 16 bytes; of 64 stations and 8 classes they are 2,576.
+fn sizes(subject: &impl MapCalls) {
+    for (k, classes) in every_size() {
+        let (map, length) = (chain(k, classes), (8 + 4 * classes) * k + 16);
+        let mut buffer = [0xa5; 2_576];
+        assert_eq!(subject.write(&map, &mut buffer), Ok(length as u32));
+        assert_eq!(read(subject, &buffer[..length]), Ok(map));
+        assert!(buffer[length..].iter().all(|&byte| byte == 0xa5), "what stands past the map is left");
+    }
 }
 
 /// Both kinds of net: steps made, and what is reported.
 pub fn nets<N: Sample>(subject: &impl NetCalls<N>) {
+    let once = |sum, missing| Some(held([(sum, missing)]));
+    let every_class = [LARGEST_COUNT, NO_READING, 1, 0, LARGEST_COUNT, 2, NO_READING, 3];
+    let totals = [(LARGEST_TOTAL, 0), (0, 64), (64, 0), (0, 0), (LARGEST_TOTAL, 0), (128, 0), (0, 64), (192, 0)];
     let runs = [
-        (alone(), 1, 1, Some((9, 0))),
-        (pair(), 3, 3, Some((7, 0))),
-        (triangle(), 7, 7, Some((23, 0))),
+        (alone(), 1, 1, once(9, 0)),
+        (pair(), 3, 3, once(7, 0)),
+        (triangle(), 7, 7, once(23, 0)),
         (triangle(), 6, 6, None),
-        (triangle(), 8, 7, Some((23, 0))),
+        (triangle(), 8, 7, once(23, 0)),
         (triangle(), 0, 0, None),
-        (all_linked(LARGEST_COUNT), 4_033, 4_033, Some((LARGEST_TOTAL, 0))),
-        (map_of(1, &[(LARGEST_COUNT, 0)]), 1, 1, Some((LARGEST_COUNT.into(), 0))),
-        (map_of(1, &[(NO_READING, 0)]), 1, 1, Some((0, 1))),
-        (lamp_failed(), 7, 7, Some((16, 1))),
-        (all_linked(NO_READING), 4_033, 4_033, Some((0, 64))),
+        (all_linked(&[LARGEST_COUNT]), 4_033, 4_033, once(LARGEST_TOTAL, 0)),
+        (map_of(1, &[([LARGEST_COUNT], 0)]), 1, 1, once(LARGEST_COUNT.into(), 0)),
+        (map_of(1, &[([NO_READING], 0)]), 1, 1, once(0, 1)),
+        (lamp_failed(), 7, 7, once(16, 1)),
+        (all_linked(&[NO_READING]), 4_033, 4_033, once(0, 64)),
+        (two_classes(), 7, 7, Some(held([(23, 0), (7, 1)]))),
+        (three_classes(), 7, 7, Some(held([(23, 0), (4, 1), (2, 2)]))),
+        (all_linked(&every_class), 4_033, 4_033, Some(held(totals))),
     ];
     for (map, draws, steps, reported) in runs {
         let mut net: N = fresh(subject, &map);
         let run = subject.run(&mut net, &vec![0; draws]);
         assert_eq!((run.refusal, run.steps, run.at_rest), (None, steps, reported.is_some()));
-        assert_eq!(run.at_rest.then(|| net.stations()[0].held), reported.map(held));
+        assert_eq!(run.at_rest.then(|| net.stations()[0].held), reported);
     }
     report_is_last(subject);
     missing_at_its_bound(subject);
+    classes_of_a_net(subject);
+}
+
+/// "Each class reports its own total", for every c.
+fn classes_of_a_net<N: Sample>(subject: &impl NetCalls<N>) {
+    for (k, classes) in every_size() {
+        let mut net: N = fresh(subject, &chain(k, classes));
+        assert!(subject.run(&mut net, &vec![0; 2 * k - 1]).at_rest);
+        for class in 0..8 {
+            let counts = (0..k).filter(|_| class < classes).map(|station| count_at(station, class));
+            let (missing, readings): (Vec<u32>, Vec<u32>) = counts.partition(|&count| count == NO_READING);
+            let due = Cell { sum: readings.into_iter().map(u64::from).sum(), missing: missing.len() as u8 };
+            assert_eq!(net.stations()[0].held.cell(class), due, "class {class} of {classes}, {k} stations");
+        }
+    }
+    for classes in [0, 9, 255] {
+        let mut net: N = fresh(subject, &triangle());
+        net.config_mut().classes = classes;
+        let before = net.clone();
+        let out_of_form = Cause::OutOfForm.alone();
+        assert_eq!(subject.step(&mut net, Step { kind: 0, sender: 99, receiver: 99 }), Err(out_of_form));
+        assert_eq!(subject.draw(&mut net, 0), Err(out_of_form));
+        let run = subject.run(&mut net, &[0]);
+        assert_eq!((run.refusal, run.steps, run.at_rest), (Some(out_of_form), 0, false));
+        assert!(net == before, "a refusal leaves the net");
+    }
 }
 
 /// A desk that has 63 missing readings takes one more and reports; one that has 64 leaves the form with it, a single draw
-/// accepted, a run stopped there with 11.
+/// accepted, a run stopped there with 11. Past c as many may stand as will.
 fn missing_at_its_bound<N: Sample>(subject: &impl NetCalls<N>) {
     let out_of_form = Cause::OutOfForm.alone();
-    for (before, refusal, steps) in [(63, None, 3), (64, Some(out_of_form), 2)] {
-        let mut net: N = fresh(subject, &map_of(2, &[(3, 2), (NO_READING, 1)]));
-        net.stations_mut()[0].held.missing = before;
+    for (class, before, refusal, steps) in [
+        (0, 63, None, 3),
+        (0, 64, Some(out_of_form), 2),
+        (1, 63, None, 3),
+        (1, 64, Some(out_of_form), 2),
+        (2, 254, None, 3),
+    ] {
+        let mut net: N = fresh(subject, &map_of(2, &[([3, 3], 2), ([NO_READING; 2], 1)]));
+        net.stations_mut()[0].held.missing[class] = before;
         let mut drawn = net.clone();
         let run = subject.run(&mut net, &[0; 4]);
         assert_eq!((run.refusal, run.steps, run.at_rest), (refusal, steps, refusal.is_none()));
-        assert_eq!(net.stations()[0].held, held((3, before + 1)));
+        let mut due = held([(3, 1), (3, 1)]);
+        due.missing[class] = before + u8::from(class < 2);
+        assert_eq!(net.stations()[0].held, due);
         for _ in 0..steps {
             subject.draw(&mut drawn, 0).expect("a draw that leaves the form is accepted");
         }
@@ -194,41 +423,52 @@ fn fresh<N: Sample>(subject: &impl NetCalls<N>, map: &Map) -> N {
 }
 
 /// A step, and what its sender holds after it.
-type Made = (u8, u8, u8, (u64, u8));
+type Made<const C: usize> = (u8, u8, u8, [(u64, u8); C]);
 
 /// Stations that meet: the two orders of the triangle, step by step, with what answers and report give; then the same
-/// orders where station 1 has no reading.
+/// orders where station 1 has no reading, and with a second class.
 pub fn orders(subject: &impl NetCalls<Meet>) {
-    let at_once = |own, total| -> [Made; 7] {
-        [
-            (WAKE, 0, 1, (5, 0)),
-            (WAKE, 0, 2, (5, 0)),
-            (PASS, 1, 2, own),
-            (PASS, 2, 1, (11, 0)),
-            (ANSWER, 1, 0, own),
-            (ANSWER, 2, 0, (11, 0)),
-            (REPORT, 0, 0, total),
-        ]
-    };
-    let in_a_chain = |own, with_2, total| -> [Made; 7] {
-        [
-            (WAKE, 0, 1, (5, 0)),
-            (WAKE, 1, 2, own),
-            (PASS, 0, 2, (5, 0)),
-            (PASS, 2, 0, (11, 0)),
-            (ANSWER, 2, 1, (11, 0)),
-            (ANSWER, 1, 0, with_2),
-            (REPORT, 0, 0, total),
-        ]
-    };
     let chain = [0, 1, 0, 0, 0, 0, 0];
-    check_order(subject, &triangle(), [0; 7], at_once((7, 0), (23, 0)));
-    check_order(subject, &triangle(), chain, in_a_chain((7, 0), (18, 0), (23, 0)));
-    check_order(subject, &lamp_failed(), [0; 7], at_once((0, 1), (16, 1)));
-    check_order(subject, &lamp_failed(), chain, in_a_chain((0, 1), (11, 1), (16, 1)));
+    let [first, third] = [[(5, 0)], [(11, 0)]];
+    check_order(subject, &triangle(), [0; 7], at_once([first, [(7, 0)], third, [(23, 0)]]));
+    check_order(subject, &triangle(), chain, in_a_chain([first, [(7, 0)], third, [(23, 0)]], [(18, 0)]));
+    check_order(subject, &lamp_failed(), [0; 7], at_once([first, [(0, 1)], third, [(16, 1)]]));
+    check_order(subject, &lamp_failed(), chain, in_a_chain([first, [(0, 1)], third, [(16, 1)]], [(11, 1)]));
+    let by_two = [[(5, 0), (4, 0)], [(7, 0), (0, 1)], [(11, 0), (3, 0)], [(23, 0), (7, 1)]];
+    check_order(subject, &two_classes(), [0; 7], at_once(by_two));
+    check_order(subject, &two_classes(), chain, in_a_chain(by_two, [(18, 0), (3, 1)]));
 }
 
-fn check_order(subject: &impl NetCalls<Meet>, map: &Map, draws: [u16; 7], steps: [Made; 7]) {
+/// What the three stations hold by themselves, and the total.
+fn at_once<const C: usize>([desk, first, second, total]: [[(u64, u8); C]; 4]) -> [Made<C>; 7] {
+    [
+        (WAKE, 0, 1, desk),
+        (WAKE, 0, 2, desk),
+        (PASS, 1, 2, first),
+        (PASS, 2, 1, second),
+        (ANSWER, 1, 0, first),
+        (ANSWER, 2, 0, second),
+        (REPORT, 0, 0, total),
+    ]
+}
+
+/// The same, and what station 1 answers with that of station 2.
+fn in_a_chain<const C: usize>(
+    [desk, first, second, total]: [[(u64, u8); C]; 4],
+    first_and_second: [(u64, u8); C],
+) -> [Made<C>; 7] {
+    [
+        (WAKE, 0, 1, desk),
+        (WAKE, 1, 2, first),
+        (PASS, 0, 2, desk),
+        (PASS, 2, 0, second),
+        (ANSWER, 2, 1, second),
+        (ANSWER, 1, 0, first_and_second),
+        (REPORT, 0, 0, total),
+    ]
+}
+
+fn check_order<const C: usize>(subject: &impl NetCalls<Meet>, map: &Map, draws: [u16; 7], steps: [Made<C>; 7]) {
     let mut net: Meet = fresh(subject, map);
     for (draw, (kind, sender, receiver, after)) in draws.into_iter().zip(steps) {
         assert_eq!(subject.draw(&mut net, draw), Ok(Step { kind, sender, receiver }));
@@ -236,7 +476,7 @@ fn check_order(subject: &impl NetCalls<Meet>, map: &Map, draws: [u16; 7], steps:
     }
 }
 
-/// The program, for the inputs that document 01 names, and for heads without a reading.
+/// The program, for the inputs that document 01 names, for heads without a reading, and for several classes.
 pub fn program(output: impl Fn(&[u8]) -> Vec<u8>) {
     let prints = |draws: &[u16], map: &Map, text: &str| {
         let input: Vec<u8> = draws.iter().flat_map(|draw| draw.to_le_bytes()).chain(stored(map)).collect();
@@ -249,11 +489,16 @@ pub fn program(output: impl Fn(&[u8]) -> Vec<u8>) {
     prints(&[0], &alone(), "report 0 9 0\nlot 1 steps 1 links 0\n");
     prints(&[0; 3], &pair(), "wake 0 1\nanswer 1 0 4 0\nreport 0 7 0\nlot 2 steps 3 links 1\n");
     prints(&[0; 7], &lamp_failed(), LAMP_FAILED_OUTPUT);
-    prints(&[0], &map_of(1, &[(NO_READING, 0)]), "report 0 0 1\nlot 1 steps 1 links 0\n");
-    prints(&[], &map_of(0, &[(0, 1)]), "refused 8 station 0\n");
-    prints(&[], &map_of(0, &[(0, 0), (0, 0)]), "refused 10 station 1\n");
-    prints(&[], &map_of(0, &[(0, 2), (0, 0)]), "refused 9 station 0\n");
-    prints(&[], &map_of(0, &[(0, 4), (0, 0)]), "refused 7 station 0\n");
+    prints(&[0; 7], &two_classes(), TWO_CLASSES_OUTPUT);
+    prints(&[0], &map_of(1, &[([NO_READING], 0)]), "report 0 0 1\nlot 1 steps 1 links 0\n");
+    let eight = map_of(1, &[([0, 1, NO_READING, 3, LARGEST_COUNT, 5, 6, NO_READING], 0)]);
+    prints(&[0], &eight, "report 0 0 0 1 0 0 1 3 0 4294967294 0 5 0 6 0 0 1\nlot 1 steps 1 links 0\n");
+    prints(&[], &map_of(0, &[([0], 1)]), "refused 8 station 0\n");
+    prints(&[], &map_of(0, &[([0], 0), ([0], 0)]), "refused 10 station 1\n");
+    prints(&[], &map_of(0, &[([0], 2), ([0], 0)]), "refused 9 station 0\n");
+    prints(&[], &map_of(0, &[([0], 4), ([0], 0)]), "refused 7 station 0\n");
     assert_eq!(output(&[0; 15]), b"refused 1\n");
     assert_eq!(output(&[0; 28]), b"refused 2\n");
+    assert_eq!(output(&one_row(44, 44)), b"refused 2\n");
+    assert_eq!(output(&one_row(40, 12)), b"refused 4\n");
 }

@@ -1,5 +1,5 @@
 //! The library from C: the header under strict flags, as C and as C++, the test programs of tests/c, and the worked
-//! examples of examples/c with what document 01 implies that they print.
+//! examples of examples/c with what documents 01 and 02 imply that they print.
 
 use std::collections::BTreeSet;
 use std::fs;
@@ -119,23 +119,23 @@ fn stack() {
     }
 }
 
-/// Station 1 in document 01's second order of the triangle, wake 0 1, wake 1 2, .., answer 2 1, answer 1 0, where station 2
-/// has no reading: answer 2 1 0 1, answer 1 0 7 1.
+/// Station 1 in document 01's second order of the triangle, wake 0 1, wake 1 2, .., answer 2 1, answer 1 0, with three
+/// classes, in the last of which stations 1 and 2 have no reading: answer 2 1 11 0 3 0 0 1, answer 1 0 18 0 4 0 0 2.
 #[test]
 fn example_controller() {
     let life = "\
-take start from 0: parent 0, waits 1, sum 7, missing 0
+take start from 0: parent 0, waits 1, holds 7 0 1 0 0 1
 send start to 2
 take start from 200: refused 12
-take answer 0 200 from 2: refused 12
-take answer 0 1 from 2: parent 0, waits 0, sum 7, missing 1
-send answer 7 1 to 0
+take answer 11 0 3 0 0 200 from 2: refused 12
+take answer 11 0 3 0 0 1 from 2: parent 0, waits 0, holds 18 0 4 0 0 2
+send answer 18 0 4 0 0 2 to 0
 ";
     assert_eq!(run("examples/c/controller.c", &[]), life);
 }
 
 /// Document 01's example of the program and its closing line; then its second order, where station 1 woke station 2, with
-/// all readings and without that of station 1.
+/// all readings, without that of station 1, and with a second class, which counts 100, 101 and 102.
 #[cfg(feature = "meet")]
 #[test]
 fn example_desk() {
@@ -150,8 +150,9 @@ answer 2 0 11 0
 report 0 23 0
 refused 14
 lot 42 steps 7 links 3
-run: steps 7, at rest 1, total 23, missing 0, station 2 hung on 1
-run: steps 7, at rest 1, total 16, missing 1, station 2 hung on 1
+run: steps 7, at rest 1, station 2 hung on 1, reported 23 0
+run: steps 7, at rest 1, station 2 hung on 1, reported 16 1
+run: steps 7, at rest 1, station 2 hung on 1, reported 16 1 303 0
 ";
     assert_eq!(run("examples/c/desk.c", &[]), lots);
 }

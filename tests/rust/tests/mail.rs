@@ -32,6 +32,11 @@ fn full_run() {
 }
 
 #[test]
+fn every_class_count() {
+    net::every_class_count::<Mail>(&Library);
+}
+
+#[test]
 fn both_kinds_report_the_same() {
     net::kinds_agree::<Meet, Mail>(&Library, &Library, 200);
 }

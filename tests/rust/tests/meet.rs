@@ -30,3 +30,8 @@ fn lists_from_fresh_nets() {
 fn full_run() {
     net::full_run::<Meet>(&Library);
 }
+
+#[test]
+fn every_class_count() {
+    net::every_class_count::<Meet>(&Library);
+}

@@ -6,7 +6,7 @@ use conformance::compare::{map, net, program, station};
 use conformance::edges;
 use conformance::gen::aggregate;
 use conformance::gen::net::any;
-use conformance::model::aggregate::Aggregate;
+use conformance::model::aggregate::{Aggregate, Cell};
 use conformance::model::mail::{Mail, Message, Outbox};
 use conformance::model::meet::{Meet, ANSWER, PASS, REPORT, WAKE};
 use conformance::model::net::{Net, Step};
@@ -18,12 +18,14 @@ use conformance::rng::for_cases;
 fn demand_3_holds_for_stations_that_meet() {
     net::lists::<Meet>(&Model, 200);
     net::full_run::<Meet>(&Model);
+    net::every_class_count::<Meet>(&Model);
 }
 
 #[test]
 fn demand_3_holds_for_stations_with_mail() {
     net::lists::<Mail>(&Model, 200);
     net::full_run::<Mail>(&Model);
+    net::every_class_count::<Mail>(&Model);
 }
 
 #[test]
@@ -68,16 +70,20 @@ fn a_post_is_what_the_box_holds() {
     });
 }
 
-/// A missing word is read by its lowest byte, and written whole.
+/// Class by class: the missing numbers in the bytes of a word from the lowest on, the sums each in a word. A start leaves
+/// them, and an answer writes them all.
 #[test]
-fn missing_words() {
+fn words_by_class() {
     let mut outbox = Outbox { answers: 1 << 5, ..Outbox::EMPTY };
     outbox.missing[5] = 0x0102_0304_0506_0740;
-    assert_eq!(outbox.mailbox(5), Some(Message::Answer(Aggregate { sum: 0, missing: 64 })));
+    outbox.sums[1][5] = 11;
+    let waits = Aggregate { sums: [0, 11, 0, 0, 0, 0, 0, 0], missing: [64, 7, 6, 5, 4, 3, 2, 1] };
+    assert_eq!(outbox.mailbox(5), Some(Message::Answer(waits)));
     outbox.post(5, Message::Start);
-    assert_eq!(outbox.missing[5], 0x0102_0304_0506_0740);
-    outbox.post(5, Message::Answer(Aggregate { sum: 7, missing: 128 }));
-    assert_eq!((outbox.missing[5], outbox.sums[5]), (128, 7));
+    assert_eq!((outbox.missing[5], outbox.sums[1][5]), (0x0102_0304_0506_0740, 11));
+    let posted = [Cell { sum: 7, missing: 128 }, Cell { sum: 0, missing: 2 }];
+    outbox.post(5, Message::Answer(Aggregate::of(posted)));
+    assert_eq!((outbox.missing[5], outbox.sums.map(|sums| sums[5])), (0x0280, [7, 0, 0, 0, 0, 0, 0, 0]));
 }
 
 /// "Each step .. equals Figure 2": on any net in form, reachable or not, the same steps are allowed and do the same.
@@ -88,7 +94,7 @@ fn steps_equal_figure_2() {
         if !net.is_well_formed() {
             return;
         }
-        let stations = 0..net.k;
+        let stations = 0..net.config.k;
         let steps = stations
             .clone()
             .flat_map(|j| stations.clone().flat_map(move |i| (1..=REPORT).map(move |kind| (kind, j, i))));
@@ -128,9 +134,11 @@ fn figure_2(net: &Meet, step: Step) -> Option<Meet> {
             receiver.state == ACTIVE && starts
         }
         ANSWER => {
-            let (held, given) = (receiver.held, sender.held);
-            next.stations[to_receiver].held =
-                Aggregate { sum: held.sum + given.sum, missing: held.missing + given.missing };
+            let (held, given) = (&mut next.stations[to_receiver].held, sender.held);
+            for class in 0..usize::from(net.config.classes) {
+                held.sums[class] += given.sums[class];
+                held.missing[class] += given.missing[class];
+            }
             next.stations[to_receiver].waits = receiver.waits.saturating_sub(1);
             next.stations[to_sender].state = FINISHED;
             done && receiver.state == ACTIVE && sender.parent == i && j != 0 && j != i

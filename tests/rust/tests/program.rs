@@ -2,7 +2,9 @@
 
 use conformance::compare::program::{inputs, length_limit, run, Left, Program};
 use conformance::edges;
+use conformance::model::map::{stored, Map};
 use conformance::model::text::output;
+use conformance::model::{CLASSES, MOST_CLASSES, PLACES};
 use std::os::unix::process::ExitStatusExt;
 use std::path::{Path, PathBuf};
 use std::process::{Command, ExitStatus, Stdio};
@@ -32,9 +34,11 @@ fn tally() -> Program {
     Program::at(env::var_os("TALLY_PROGRAM").map_or(built, PathBuf::from))
 }
 
-/// Document 01's example, and an input that is refused.
-fn samples() -> [Vec<u8>; 2] {
-    [fs::read(in_repository("examples/triangle.bin")).expect("the example is read"), vec![7; 40]]
+/// Document 01's example, one station with all classes, and an input that is refused.
+fn samples() -> [Vec<u8>; 3] {
+    let example = fs::read(in_repository("examples/triangle.bin")).expect("the example is read");
+    let alone = Map { counts: [[u32::MAX - 1; CLASSES]; PLACES], ..Map::empty(1, MOST_CLASSES, u32::MAX) };
+    [example, [vec![0; 2], stored(&alone)].concat(), vec![7; 40]]
 }
 
 /// The program with the calls that fail that tests/faults.c is told.

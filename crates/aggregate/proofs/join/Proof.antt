@@ -1,45 +1,173 @@
--- `aggregate::join` meets its contract: two sums below 2^62 do not wrap, nor two missing numbers up to 64. Assumes nothing.
-use mathlib.Core.Path.{_≡_, sym, _∙_}
-use mathlib.Core.Bool.{true}
-use Prim.Native.Nat.{_+_, _^_, _<_}
-use native.Mathlib.Omega.{arith}
-use borrow.Author.Needs.{needs}
+-- `aggregate::join` meets its contract: class by class, the joined cell is stored over the first's places. Assumes nothing.
+use mathlib.Core.Path.{_≡_, refl, sym, ap₂, _∙_}
+use mathlib.Core.Bool.{Bool, true, false, not, _&&_}
+use Prim.Native.Nat.{ℕ, _^_, _≤_, _<_, _-_, min}
+use lib.ListN.{length, length-map}
 use borrow.Author.Tests.{not-true, not-false}
-use Rattle.finite.proofs.Cases.{and-both}
-use Rattle.aggregate.specs.Aggregate.{sumOf, missingOf, bounded, joined, joinable}
-use Rattle.aggregate.proofs.Laws.{bounded-parts}
+use Rattle.finite.specs.Below.{allBelow}
+use Rattle.finite.proofs.Cases.{by-bool, clash, and-both}
+use Rattle.finite.proofs.Below.{all-below-more}
+use Rattle.aggregate.specs.declared.Config.{Config}
+use Rattle.aggregate.specs.declared.Aggregate.{Aggregate}
+use Rattle.aggregate.specs.Aggregate.{used, cell, cellBounded, bounded, cellJoined, joined, joinable}
+use Rattle.aggregate.proofs.Places.{Storing, storing-none, storing-more, storing-all}
+use Rattle.aggregate.proofs.Laws.{cell-parts, bounded-at}
+use native.Mathlib.Omega.{arith}
 use Rattle.aggregate.proofs.join.Statement.{statement}
 use Rattle.aggregate.proofs.join.Tie as tie
 
-is-joinable-requires : tie.Need-is-joinable-requires
-is-joinable-requires c κs = search needs
+abbrev Inv-loop : tie.InvT-loop
+Inv-loop a b classes sums₀ missing₀ class₀ sums missing class =
+    (class ≤ classes)
+    × Storing (λ j. cellJoined (cell a j) (cell b j)) (a .sums) (a .missing) sums missing class
+    × (allBelow class (λ j. cellBounded (cell a j)) ≡ true)
+    × (allBelow class (λ j. cellBounded (cell b j)) ≡ true)
 
-returns : tie.Need-returns
-returns c = rw (sym (c .before .is-joinable .ensures) ∙ not-true _ (c .if1 .taken))
+abbrev μ-loop : tie.MeasureT-loop
+μ-loop a b classes sums₀ missing₀ class₀ sums missing class = classes - class
 
--- past the test both are bounded
-is-joinable : (c : tie.Else1) → joinable (c .before .before .args .t) (c .before .before .args .a) (c .before .before .args .b) ≡ true
-is-joinable c = sym (c .before .is-joinable .ensures) ∙ not-false _ (c .if1 .left)
+count-used-requires : tie.Need-count-used-requires Inv-loop μ-loop
+count-used-requires c κs = tt
+
+loop-holds : tie.Need-loop-holds Inv-loop μ-loop
+unfolding allBelow
+loop-holds c =
+    let s = c .before .before .before in
+    let ls : length (s .args .t2 .sums) ≡ 8 = sym (length-map (s .args .t2 .sums) (λ n. n)) ∙ s .good .1 .0 .1 .1 .0 .1 .0 .1 in
+    let lm : length (s .args .t2 .missing) ≡ 8 = sym (length-map (s .args .t2 .missing) (λ n. n)) ∙ s .good .1 .0 .1 .1 .1 .0 .1 .0 .1 in
+    (omega arith, storing-none _ (s .args .t2 .sums) (s .args .t2 .missing) ls lm, refl, refl)
+
+mul-sums : tie.Need-mul-sums Inv-loop μ-loop
+mul-sums c = omega arith
+
+element-copy-out-sums : tie.Need-element-copy-out-sums Inv-loop μ-loop
+element-copy-out-sums c = omega arith
+
+element-copy-out-missing : tie.Need-element-copy-out-missing Inv-loop μ-loop
+element-copy-out-missing c = omega arith
+
+mul-sums-2 : tie.Need-mul-sums-2 Inv-loop μ-loop
+mul-sums-2 c = omega arith
+
+element-copy-out-sums-2 : tie.Need-element-copy-out-sums-2 Inv-loop μ-loop
+element-copy-out-sums-2 c = omega arith
+
+element-copy-out-missing-2 : tie.Need-element-copy-out-missing-2 Inv-loop μ-loop
+element-copy-out-missing-2 c = omega arith
+
+is-cell-bounded-requires : tie.Need-is-cell-bounded-requires Inv-loop μ-loop
+is-cell-bounded-requires c κs = tt
+
+is-cell-bounded-requires-2 : tie.Need-is-cell-bounded-requires-2 Inv-loop μ-loop
+is-cell-bounded-requires-2 c κs = tt
+
+-- a class in use that is not bounded, of either
+failed : (t : Config) (a b : Aggregate) (i : ℕ) → i < used t → (p q : Bool) → p ≡ cellBounded (cell a i) → q ≡ cellBounded (cell b i) → not (p && q) ≡ true
+    → joinable t a b ≡ false
+failed t a b i l p q e f h =
+    by-bool (joinable t a b)
+    (λ j. let both = and-both (bounded t a) (bounded t b) j in
+    clash (ap₂ (λ (x y : Bool). x && y) (e ∙ bounded-at t a (both .0) i l) (f ∙ bounded-at t b (both .1) i l)) (not-true (p && q) h))
+    (λ j. j)
+
+returns : tie.Need-returns Inv-loop μ-loop
+returns c =
+    let s = c .before .before .before .before .before .before .before .before .before .before .before .before in
+    let l = c .before .before .before .before .before .before .before .before .loop in
+    let e = failed (s .args .t) (s .args .t2) (s .args .t3) (l .class) (omega arith) _ _ (c .before .before .is-cell-bounded .ensures) (c .before .is-cell-bounded2 .ensures) (c .if1 .taken) in
+    (sym e, rw e)
+
+-- past the test both are
+both-passed : (c : tie.Else1 Inv-loop μ-loop) → let s = c .before .before .before .before .before .before .before .before .before .before .before .before in let i = c .before .before .before .before .before .before .before .before .loop .class in
+    (cellBounded (cell (s .args .t2) i) ≡ true) × (cellBounded (cell (s .args .t3) i) ≡ true)
+both-passed c =
+    let both = and-both (c .before .before .is-cell-bounded .result) (c .before .is-cell-bounded2 .result) (not-false _ (c .if1 .left)) in
+    (sym (c .before .before .is-cell-bounded .ensures) ∙ both .0, sym (c .before .is-cell-bounded2 .ensures) ∙ both .1)
 
 -- so their numbers do not wrap
-small : (c : tie.Else1) → let args = c .before .before .args in
-    (sumOf (args .a) + sumOf (args .b) < 2 ^ 64) × (missingOf (args .a) + missingOf (args .b) < 256)
-small c =
-    let args = c .before .before .args in
-    let both = and-both (bounded (args .t) (args .a)) (bounded (args .t) (args .b)) (is-joinable c) in
-    let a = bounded-parts (args .t) (args .a) (both .0) in
-    let b = bounded-parts (args .t) (args .b) (both .1) in
-    (omega (arith, a .0, b .0), omega (arith, a .1, b .1))
+passed : (c : tie.Else1 Inv-loop μ-loop) → let s = c .before .before .before .before .before .before .before .before .before .before .before .before in let i = c .before .before .before .before .before .before .before .before .loop .class in
+    ((cell (s .args .t2) i .sum < 2 ^ 62) × (cell (s .args .t2) i .missing ≤ 64)) × ((cell (s .args .t3) i .sum < 2 ^ 62) × (cell (s .args .t3) i .missing ≤ 64))
+passed c = (cell-parts _ (both-passed c .0), cell-parts _ (both-passed c .1))
 
-add-t6 : tie.Need-add-t6
-add-t6 c = omega (arith, small (c .before .before) .0)
+add-sums : tie.Need-add-sums Inv-loop μ-loop
+add-sums c =
+    let both = passed (c .before .before) in
+    omega (arith, both .0 .0, both .1 .0)
 
-add-t7 : tie.Need-add-t7
-add-t7 c = omega (arith, small (c .before .before .before .before) .1)
+mul-sums-3 : tie.Need-mul-sums-3 Inv-loop μ-loop
+mul-sums-3 c = omega arith
 
-returns-2 : tie.Need-returns-2
-unfolding joined
-returns-2 c = rw (is-joinable (c .before .before .before .before))
+array-write-sums : tie.Need-array-write-sums Inv-loop μ-loop
+array-write-sums c = omega arith
+
+add-missing : tie.Need-add-missing Inv-loop μ-loop
+add-missing c =
+    let both = passed (c .before .before .before .before) in
+    omega (arith, both .0 .1, both .1 .1)
+
+array-write-missing : tie.Need-array-write-missing Inv-loop μ-loop
+array-write-missing c = omega arith
+
+add-class : tie.Need-add-class Inv-loop μ-loop
+add-class c = omega arith
+
+loop-less : tie.Need-loop-less Inv-loop μ-loop
+loop-less c = omega arith
+
+loop-again : tie.Need-loop-again Inv-loop μ-loop
+unfolding cellJoined
+loop-again c =
+    let s = c .before .before .before .before .before .before .before .before .before .before .before .before .before .before .before .before in
+    let l = c .before .before .before .before .before .before .before .before .before .before .before .before .loop in
+    let ls : length (s .args .t2 .sums) ≡ 8 = sym (length-map (s .args .t2 .sums) (λ n. n)) ∙ s .good .1 .0 .1 .1 .0 .1 .0 .1 in
+    let lm : length (s .args .t2 .missing) ≡ 8 = sym (length-map (s .args .t2 .missing) (λ n. n)) ∙ s .good .1 .0 .1 .1 .1 .0 .1 .0 .1 in
+    let one = both-passed (c .before .before .before .before) in (
+      omega arith,
+      storing-more (λ j. cellJoined (cell (s .args .t2) j) (cell (s .args .t3) j)) (s .args .t2 .sums) (s .args .t2 .missing) ls lm (l .sums) (l .missing) (l .class)
+          (l .inv .1) (cellJoined (cell (s .args .t2) (l .class)) (cell (s .args .t3) (l .class))) refl,
+      all-below-more (λ j. cellBounded (cell (s .args .t2) j)) (l .class) ∙ ap₂ (λ (x y : Bool). x && y) (l .inv .2) (one .0),
+      all-below-more (λ j. cellBounded (cell (s .args .t3) j)) (l .class) ∙ ap₂ (λ (x y : Bool). x && y) (l .inv .3) (one .1),
+    )
+
+returns-2 : tie.Need-returns-2 Inv-loop μ-loop
+unfolding joined bounded
+returns-2 c =
+    let s = c .before .before .before .before .before in
+    let l = c .before .loop in
+    let ls : length (s .args .t2 .sums) ≡ 8 = sym (length-map (s .args .t2 .sums) (λ n. n)) ∙ s .good .1 .0 .1 .1 .0 .1 .0 .1 in
+    let lm : length (s .args .t2 .missing) ≡ 8 = sym (length-map (s .args .t2 .missing) (λ n. n)) ∙ s .good .1 .0 .1 .1 .1 .0 .1 .0 .1 in
+    let end : l .class ≡ min (s .args .t .classes) 8 = omega arith in
+    let a : bounded (s .args .t) (s .args .t2) ≡ true = rw end at (l .inv .2) in
+    let b : bounded (s .args .t) (s .args .t3) ≡ true = rw end at (l .inv .3) in (
+      rw (a, b),
+      rw (a, b)
+          (storing-all (λ j. cellJoined (cell (s .args .t2) j) (cell (s .args .t3) j)) (s .args .t2 .sums) (s .args .t2 .missing) ls lm (l .sums) (l .missing) (l .class) (l .inv .1)
+          (min (s .args .t .classes) 8) (cell (s .args .t2)) end (λ j h. refl) (λ j h. refl)),
+    )
 
 pub join-spec : {M : Type 1} → statement M
-join-spec = tie.close (tie.spec is-joinable-requires returns add-t6 add-t7 returns-2)
+join-spec =
+    tie.close
+    (tie.spec
+    Inv-loop
+    μ-loop
+    count-used-requires
+    loop-holds
+    mul-sums
+    element-copy-out-sums
+    element-copy-out-missing
+    mul-sums-2
+    element-copy-out-sums-2
+    element-copy-out-missing-2
+    is-cell-bounded-requires
+    is-cell-bounded-requires-2
+    returns
+    add-sums
+    mul-sums-3
+    array-write-sums
+    add-missing
+    array-write-missing
+    add-class
+    loop-less
+    loop-again
+    returns-2)

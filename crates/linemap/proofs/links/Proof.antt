@@ -1,12 +1,22 @@
--- `linemap::links` meets its contract: it counts links as `topology::links` does, with the root of the map's config. Assumes
--- nothing.
-use mathlib.Core.Path.{ap, _∙_}
+-- `linemap::links` meets its contract: it refuses the class count, or counts links as `topology::links` does, with the root of the
+-- map's config. Assumes nothing.
+use mathlib.Core.Path.{sym, ap, _∙_}
 use Prim.Native.Nat.{ℕ}
+use borrow.Author.Tests.{not-true, not-false}
 use borrow.Author.Needs.{needs}
 use Rattle.aggregate.specs.Aggregate.{rootOf}
 use Rattle.topology.specs.Acceptance.{linksOf}
 use Rattle.linemap.proofs.links.Statement.{statement}
 use Rattle.linemap.proofs.links.Tie as tie
+
+cast-is-class-count : tie.Need-cast-is-class-count
+cast-is-class-count c = search needs
+
+is-class-count-requires : tie.Need-is-class-count-requires
+is-class-count-requires c κs = search needs
+
+returns : tie.Need-returns
+returns c = rw (sym (c .before .is-class-count .ensures) ∙ not-true _ (c .if1 .taken))
 
 config-requires : tie.Need-config-requires
 config-requires c κs = search needs
@@ -17,12 +27,23 @@ root-requires c κs = search needs
 links-requires : tie.Need-links-requires
 links-requires c κs = search needs
 
-returns : tie.Need-returns
-returns c =
-    let m = c .before .before .before .before .before .args .m in
-    c .links .ensures
+returns-2 : tie.Need-returns-2
+returns-2 c =
+    let test = c .before .before .before .before .before in
+    let m = test .before .before .before .args .m in
+    rw (sym (test .before .is-class-count .ensures) ∙ not-false _ (test .if1 .left))
+    (c .links .ensures
     ∙ ap (λ (root : ℕ). linksOf root (m .k) (m .neighbours))
-    (c .before .before .before .root .ensures ∙ ap rootOf (c .before .before .before .before .config .ensures))
+    (c .before .before .before .root .ensures ∙ ap rootOf (c .before .before .before .before .config .ensures)))
 
 pub links-spec : {M : Type 1} → statement M
-links-spec = tie.close (tie.spec config-requires root-requires links-requires returns)
+links-spec =
+    tie.close
+    (tie.spec
+    cast-is-class-count
+    is-class-count-requires
+    returns
+    config-requires
+    root-requires
+    links-requires
+    returns-2)

@@ -6,7 +6,8 @@ use borrow.Author.Needs.{needs}
 use Rattle.topology.specs.Answer.{isAccepted}
 use Rattle.topology.specs.Acceptance.{faultNumbers, verdictNumbers}
 use Rattle.linemap.specs.Maps.{acceptance}
-use Rattle.linemap.proofs.Accepted.{map-web}
+use Rattle.linemap.proofs.Accepted.{map-classes, map-web}
+use Rattle.aggregate.proofs.Laws.{class-count}
 use Rattle.linemap.proofs.Rules.{unfit, too-short, fills}
 use Rattle.linemap.proofs.write.Statement.{statement}
 use Rattle.linemap.proofs.write.Tie as tie
@@ -40,7 +41,9 @@ returns-2 c = too-short _ _ (is-accepted (c .before .before)) _ (c .before .stor
 put-map-requires : tie.Need-put-map-requires
 put-map-requires c κs =
     let start = c .before .before .before .before .before .before .before in
-    (map-web (start .args .m) (is-accepted (c .before .before .before)) .few-stations, omega (arith, c .before .before .stored-length .ensures))
+    let m = start .args .m in
+    let ok = is-accepted (c .before .before .before) in
+    (class-count (m .classes) (map-classes m ok) .1, map-web m ok .few-stations, omega (arith, c .before .before .stored-length .ensures))
 
 same-length : tie.Need-same-length
 same-length c = search needs

@@ -6,13 +6,15 @@ use lib.Seq.{sets}
 use lib.Dec.{leb, eqb}
 use Rattle.finite.specs.Tests.{unless}
 use Rattle.bitset.specs.Set.{isStationCount}
-use Rattle.topology.specs.declared.Fault.the-variants.{Stations}
-use Rattle.linemap.specs.Numbers.{number, sumWords}
-use Rattle.linemap.specs.Stored.{rowLength, trailerLength, storedLength, wordCount}
-use Rattle.linemap.specs.Reading.{ReadOutcome, emptyMap, readRefused, stationsIn, rowLengthIn, distanceIn, lotIn, mapAt, judged}
+use Rattle.topology.specs.declared.Fault.the-variants.{Classes, Stations}
+use Rattle.finite.specs.Numbers.{number}
+use Rattle.linemap.specs.Words.{sumWords}
+use Rattle.linemap.specs.Stored.{trailerLength, storedLength, wordCount}
+use Rattle.linemap.specs.Reading.{ReadOutcome, emptyMap, readRefused, isRowLength, mapAt, judged}
+use Rattle.linemap.specs.Reading.{stationsIn, rowLengthIn, distanceIn, lotIn}
 use Rattle.linemap.specs.declared.MapRead.{MapRead}
 use Rattle.linemap.specs.declared.ReadAnswer.{ReadAnswer}
-use Rattle.linemap.specs.declared.ReadFault.the-variants.{RowLength, Distance, Rows, CheckWord, Unfit}
+use Rattle.linemap.specs.declared.ReadFault.the-variants.{Distance, Rows, CheckWord, Unfit}
 use Rattle.linemap.specs.declared.reading.TrailerRead.{TrailerRead}
 use Rattle.linemap.specs.declared.reading.RowRead.{RowRead}
 use Rattle.linemap.specs.declared.ReadAnswer.the-variants as answer
@@ -31,21 +33,21 @@ trailerOf s =
 -- the rules 2 to 4 on k, the row length and the distance
 unfoldable pub trailerAnswer : ℕ → ℕ → ℕ → ReadAnswer
 trailerAnswer k row distance =
-    unless (eqb row rowLength) (answer.Refused RowLength)
+    unless (isRowLength row) (answer.Refused (Unfit Classes))
     (unless (isStationCount k) (answer.Refused (Unfit Stations))
-    (unless (eqb distance (rowLength * k)) (answer.Refused Distance) answer.Accepted))
+    (unless (eqb distance (row * k)) (answer.Refused Distance) answer.Accepted))
 
--- the row that starts so many bytes before the end
-unfoldable pub rowOf : List ℕ → ℕ → RowRead
-rowOf s back =
-    unless (leb back (length s)) row.Outside (row.Row (number s (length s - back) 4) (number s (length s - back + 4) 8))
+-- the row of w bytes that starts so many bytes before the end: its place, and its set, the last 8 bytes
+unfoldable pub rowOf : List ℕ → ℕ → ℕ → RowRead
+rowOf s w back =
+    unless (leb back (length s)) row.Outside (row.Row (length s - back) (number s (length s - back + (w - 8)) 8))
 
--- the rules 5 to 10 on the rows of k stations
-unfoldable pub rowsOutcome : List ℕ → ℕ → ℕ → ReadOutcome
-rowsOutcome s k lot =
-    unless (leb (storedLength k) (length s)) (readRefused Rows)
-    (unless (eqb (sumWords s (length s - storedLength k) (wordCount k)) 0) (readRefused CheckWord)
-    (judged (mapAt s k lot (length s - storedLength k))))
+-- the rules 5 to 10 on the rows of k stations, with c counts each
+unfoldable pub rowsOutcome : List ℕ → ℕ → ℕ → ℕ → ReadOutcome
+rowsOutcome s c k lot =
+    unless (leb (storedLength c k) (length s)) (readRefused Rows)
+    (unless (eqb (sumWords s (length s - storedLength c k) (wordCount c k)) 0) (readRefused CheckWord)
+    (judged (mapAt s c k lot (length s - storedLength c k))))
 
 -- an answer with the empty map
 abbrev pub unreadBy : ReadAnswer → MapRead

@@ -10,9 +10,6 @@ put-waiting-requires c κs = search needs
 missing-word-requires : tie.Need-missing-word-requires
 missing-word-requires c κs = search needs
 
-sum-of-requires : tie.Need-sum-of-requires
-sum-of-requires c κs = search needs
-
 mul-boxes : tie.Need-mul-boxes
 mul-boxes c = search needs
 
@@ -28,24 +25,12 @@ mul-boxes-2 c = search needs
 element-write-boxes : tie.Need-element-write-boxes
 element-write-boxes c = search needs
 
-mul-boxes-3 : tie.Need-mul-boxes-3
-mul-boxes-3 c = search needs
-
-add-boxes-3 : tie.Need-add-boxes-3
-add-boxes-3 c = search needs
-
-add-boxes-4 : tie.Need-add-boxes-4
-add-boxes-4 c = search needs
-
-mul-boxes-4 : tie.Need-mul-boxes-4
-mul-boxes-4 c = search needs
-
-element-write-boxes-2 : tie.Need-element-write-boxes-2
-element-write-boxes-2 c = search needs
+store-sums-requires : tie.Need-store-sums-requires
+store-sums-requires c κs = search needs
 
 returns : tie.Need-returns
 unfolding withAnswer
-returns c = rw (c .before .before .put-waiting .ensures, c .before .missing-word .ensures, c .sum-of .ensures)
+returns c = rw (c .store-sums .ensures, c .before .before .missing-word .ensures, c .before .before .before .put-waiting .ensures)
 
 pub store-answer-spec : {M : Type 1} → statement M
 store-answer-spec =
@@ -53,15 +38,10 @@ store-answer-spec =
     (tie.spec
     put-waiting-requires
     missing-word-requires
-    sum-of-requires
     mul-boxes
     add-boxes
     add-boxes-2
     mul-boxes-2
     element-write-boxes
-    mul-boxes-3
-    add-boxes-3
-    add-boxes-4
-    mul-boxes-4
-    element-write-boxes-2
+    store-sums-requires
     returns)

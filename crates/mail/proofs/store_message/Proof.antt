@@ -10,8 +10,8 @@ enum-told c = search needs
 put-waiting-requires : tie.Need-put-waiting-requires
 put-waiting-requires c κs = search needs
 
-enum-known-m : tie.Need-enum-known-m
-enum-known-m c = search needs
+enum-told-2 : tie.Need-enum-told-2
+enum-told-2 c = search needs
 
 store-answer-requires : tie.Need-store-answer-requires
 store-answer-requires c κs = search needs
@@ -22,9 +22,9 @@ returns c = rw (c .before .before .enum-told .given .1, c .put-waiting .ensures)
 
 returns-2 : tie.Need-returns-2
 unfolding withMessage
-returns-2 c = rw (c .before .before .before .m .given .1, c .store-answer .ensures)
+returns-2 c = rw (c .before .before .enum-told2 .given .1, c .store-answer .ensures)
 
 pub store-message-spec : {M : Type 1} → statement M
 store-message-spec =
     tie.close
-    (tie.spec enum-told put-waiting-requires enum-known-m store-answer-requires returns returns-2)
+    (tie.spec enum-told put-waiting-requires enum-told-2 store-answer-requires returns returns-2)

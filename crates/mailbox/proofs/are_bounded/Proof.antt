@@ -7,13 +7,14 @@ use lib.Dec.{eqb}
 use borrow.Author.Needs.{needs}
 use Rattle.finite.specs.Below.{allBelow}
 use Rattle.finite.proofs.Below.{all-below-more}
-use Rattle.mail.specs.Mail.{mailboxBounded, boxAt}
+use Rattle.mail.specs.Mail.{mailboxBounded, boxAt, broughtAt}
 use Rattle.mailbox.specs.Net.{areBounded}
 use Rattle.mailbox.proofs.are_bounded.Statement.{statement}
 use Rattle.mailbox.proofs.are_bounded.Tie as tie
 
 abbrev Inv-loop : tie.InvT-loop
-Inv-loop t boxes k ok₀ s₀ ok s = (s ≤ k) × (ok ≡ allBelow s (λ i. allBelow k (λ j. eqb i j || mailboxBounded t (boxAt boxes i j))))
+Inv-loop t boxes k ok₀ s₀ ok s =
+    (s ≤ k) × (ok ≡ allBelow s (λ i. allBelow k (λ j. eqb i j || mailboxBounded t (boxAt boxes i j) (broughtAt t boxes i j))))
 
 abbrev μ-loop : tie.MeasureT-loop
 μ-loop t boxes k ok₀ s₀ ok s = k - s

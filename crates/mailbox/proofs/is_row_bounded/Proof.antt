@@ -1,8 +1,8 @@
 -- `mailbox::is_row_bounded` meets its contract. Invariant: ok is the test of the mailboxes passed (`Tested`). Where no answer waits there is no
 -- sum. Assumes nothing.
-use mathlib.Core.Path.{_≡_, refl, sym, ap, _∙_}
+use mathlib.Core.Path.{_≡_, refl, sym, ap, ap₂, _∙_}
 use mathlib.Core.Bool.{_||_}
-use Prim.Native.Nat.{_+_, _-_}
+use Prim.Native.Nat.{_+_, _-_, _<_}
 use native.Mathlib.Omega.{arith}
 use lib.Dec.{eqb}
 use borrow.Author.Needs.{needs}
@@ -11,8 +11,8 @@ use Rattle.finite.proofs.Cases.{or-right}
 use Rattle.bitset.proofs.Laws.{member-empty}
 use Rattle.bitset.proofs.Selected.{none-of-eight}
 use Rattle.bitset.specs.Set.{member}
-use Rattle.mail.specs.Mail.{answersOf, mailboxBounded, boxAt}
-use Rattle.mail.proofs.Guards.{box-read}
+use Rattle.mail.specs.Mail.{answersOf, mailboxBounded, boxAt, broughtAt}
+use Rattle.mail.proofs.Guards.{box-read, brought-read}
 use Rattle.mailbox.proofs.Laws.{unanswered}
 use Rattle.mailbox.proofs.Testing.{Tested, tested-none, tested-past, tested-next, tested-all}
 use Rattle.mailbox.proofs.is_row_bounded.Statement.{statement}
@@ -20,7 +20,7 @@ use Rattle.mailbox.proofs.is_row_bounded.Tie as tie
 
 abbrev Inv-loop : tie.InvT-loop
 Inv-loop t boxes s answers k ok₀ r₀ ok r =
-    (answers ≡ answersOf boxes s) × Tested (λ i. eqb s i || mailboxBounded t (boxAt boxes s i)) k r ok
+    (answers ≡ answersOf boxes s) × Tested (λ i. eqb s i || mailboxBounded t (boxAt boxes s i) (broughtAt t boxes s i)) k r ok
 
 abbrev μ-loop : tie.MeasureT-loop
 μ-loop t boxes s answers k ok₀ r₀ ok r = k - r
@@ -63,11 +63,8 @@ loop-again c =
           (unanswered (a .t) (a .boxes .now) (a .s) (l .r + i) (ap (member (l .r + i)) (sym (l .inv .0)) ∙ none-of-eight (l .r) _ (c .if2 .taken) i m))),
     )
 
-box-at-requires : tie.Need-box-at-requires Inv-loop μ-loop
-box-at-requires c κs = search needs
-
-is-bounded-requires : tie.Need-is-bounded-requires Inv-loop μ-loop
-is-bounded-requires c κs = search needs
+is-box-bounded-requires : tie.Need-is-box-bounded-requires Inv-loop μ-loop
+is-box-bounded-requires c κs = search needs
 
 add-r-2 : tie.Need-add-r-2 Inv-loop μ-loop
 add-r-2 c = search needs
@@ -77,10 +74,13 @@ loop-less-2 c = search needs
 
 loop-again-2 : tie.Need-loop-again-2 Inv-loop μ-loop
 loop-again-2 c =
-    let l = c .before .before .before .before .loop in
-    let a = c .before .before .before .before .before .before .before .args in
-    let tests = c .is-bounded .ensures ∙ ap (mailboxBounded (a .t)) (c .before .box-at .ensures ∙ box-read (a .boxes .now) (a .s) (omega arith) (l .r) (omega arith)) in
-    (l .inv .0, rw tests (tested-next _ _ (l .inv .1) (c .before .before .before .loop-test .taken)))
+    let l = c .before .before .before .loop in
+    let a = c .before .before .before .before .before .before .args in
+    let hs : a .s < 64 = omega arith in
+    let hr : l .r < 64 = omega arith in
+    let tests = c .is-box-bounded .ensures
+    ∙ ap₂ (mailboxBounded (a .t)) (box-read (a .boxes .now) (a .s) hs (l .r) hr) (brought-read (a .boxes .now) (a .s) hs (l .r) hr (a .t)) in
+    (l .inv .0, rw tests (tested-next _ _ (l .inv .1) (c .before .before .loop-test .taken)))
 
 returns-2 : tie.Need-returns-2 Inv-loop μ-loop
 returns-2 c = tested-all _ _ (c .before .loop .inv .1) (c .loop-test .left)
@@ -101,8 +101,7 @@ is-row-bounded-spec =
     add-r
     loop-less
     loop-again
-    box-at-requires
-    is-bounded-requires
+    is-box-bounded-requires
     add-r-2
     loop-less-2
     loop-again-2

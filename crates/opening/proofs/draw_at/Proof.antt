@@ -1,7 +1,7 @@
 -- `opening::draw_at` meets its contract: a number of two bytes, lowest first. Assumes nothing.
 use native.Mathlib.Omega.{arith}
 use borrow.Author.Needs.{needs}
-use Rattle.linemap.specs.Numbers.{number}
+use Rattle.finite.specs.Numbers.{number}
 use Rattle.opening.specs.Opening.{drawAt}
 use Rattle.opening.proofs.draw_at.Statement.{statement}
 use Rattle.opening.proofs.draw_at.Tie as tie

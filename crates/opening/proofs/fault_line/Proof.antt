@@ -10,6 +10,9 @@ use Rattle.opening.proofs.fault_line.Tie as tie
 enum-told : tie.Need-enum-told
 enum-told c = search needs
 
+enum-told-2 : tie.Need-enum-told-2
+enum-told-2 c = search needs
+
 enum-known-fault : tie.Need-enum-known-fault
 enum-known-fault c = search needs
 
@@ -26,22 +29,26 @@ returns : tie.Need-returns
 returns c = search needs
 
 returns-2 : tie.Need-returns-2
-returns-2 c = sym (ap (λ (f : Fault). refusalLine (faultNumbers f)) (c .before .fault .given .1))
+returns-2 c = search needs
 
 returns-3 : tie.Need-returns-3
-returns-3 c = sym (ap (λ (f : Fault). refusalLine (faultNumbers f)) (c .before .fault2 .given .1))
+returns-3 c = sym (ap (λ (f : Fault). refusalLine (faultNumbers f)) (c .before .fault .given .1))
 
 returns-4 : tie.Need-returns-4
-returns-4 c = sym (ap (λ (f : Fault). refusalLine (faultNumbers f)) (c .before .fault3 .given .1))
+returns-4 c = sym (ap (λ (f : Fault). refusalLine (faultNumbers f)) (c .before .fault2 .given .1))
 
 returns-5 : tie.Need-returns-5
-returns-5 c = sym (ap (λ (f : Fault). refusalLine (faultNumbers f)) (c .before .fault4 .given .1))
+returns-5 c = sym (ap (λ (f : Fault). refusalLine (faultNumbers f)) (c .before .fault3 .given .1))
+
+returns-6 : tie.Need-returns-6
+returns-6 c = sym (ap (λ (f : Fault). refusalLine (faultNumbers f)) (c .before .fault4 .given .1))
 
 pub fault-line-spec : {M : Type 1} → statement M
 fault-line-spec =
     tie.close
     (tie.spec
     enum-told
+    enum-told-2
     enum-known-fault
     enum-known-fault-2
     enum-known-fault-3
@@ -50,4 +57,5 @@ fault-line-spec =
     returns-2
     returns-3
     returns-4
-    returns-5)
+    returns-5
+    returns-6)

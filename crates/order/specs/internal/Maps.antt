@@ -1,12 +1,12 @@
--- Demand 3 on maps: for every accepted map, a kind of net that is opened on it is order-free, and the number reported is the sum of all
--- counts (document 01, "Lists of calls").
+-- Demand 3 on maps: for every accepted map, a kind of net that is opened on it is order-free, and the number reported is, class by class, the
+-- sum of all counts (document 01, "Lists of calls"; document 02, request 2).
 use mathlib.Core.Path.{_≡_}
 use mathlib.Core.List.{List, map}
-use Prim.Native.Nat.{ℕ}
-use lib.ListN.{getD}
+use Prim.Native.Nat.{ℕ, _<_}
+use Rattle.aggregate.specs.declared.Cell.{Cell}
 use Rattle.aggregate.specs.declared.Aggregate.{Aggregate}
-use Rattle.aggregate.specs.Aggregate.{gathered}
-use Rattle.aggregate.specs.internal.Joining.{joining}
+use Rattle.aggregate.specs.Aggregate.{cell, gathered}
+use Rattle.aggregate.specs.internal.Joining.{cells, joining}
 use Rattle.wave.specs.internal.Wave.{report}
 use Rattle.wave.specs.internal.Claim.{times}
 use Rattle.topology.specs.Answer.{accepted}
@@ -15,19 +15,20 @@ use Rattle.linemap.specs.declared.Map.{Map}
 use Rattle.linemap.specs.Maps.{configOf, acceptance, totals}
 use Rattle.linemap.specs.RoundTrip.{Fits}
 use Rattle.schedule.specs.Rules.{Rules}
+use Rattle.stations.specs.Stations.{readingAt}
 use Rattle.schedule.specs.Calls.{Call, callsMade, callsNet}
 use Rattle.schedule.specs.internal.Labels.{labelOf}
 use Rattle.order.specs.internal.Order.{OrderFree}
 
--- what station i of the map gathers by itself
-abbrev pub readings : Map → ℕ → Aggregate
-readings m i = gathered (configOf m) (record { count = getD (m .counts) i 0 })
+-- what station i of the map gathers by itself, class by class
+abbrev pub readings : Map → ℕ → ℕ → Cell
+readings m i = cells (configOf m) (gathered (configOf m) (readingAt (configOf m) (m .counts) i))
 
 -- what holds on one map, of the fresh net and of what the root of a net holds
 pub record OrderOn {Net : Type 0} (R : Rules Net) (m : Map) (fresh : Net) (held : Net → Aggregate) : Type 0 where
-  pub order : OrderFree R (m .k) (linked (m .k) (m .neighbours)) (joining (configOf m)) (readings m) fresh held
+  pub order : OrderFree R (m .k) (linked (m .k) (m .neighbours)) joining (readings m) fresh (λ net. cells (configOf m) (held net))
   pub number : (calls : List Call) → times report (map (labelOf R) (callsMade R fresh calls)) ≡ 1
-      → held (callsNet R fresh calls) ≡ totals m
+      → (j : ℕ) → j < m .classes → cell (held (callsNet R fresh calls)) j ≡ totals m j
 
 -- Demand 3 for a kind of net: on every accepted map
 abbrev pub Ordered : {Net : Type 0} → Rules Net → (Map → Net) → (Map → Net → Aggregate) → Type 0

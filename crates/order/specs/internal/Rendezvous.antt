@@ -2,6 +2,7 @@
 -- (proofs/RendezvousOrder).
 use mathlib.Core.Path.{_≡_}
 use mathlib.Core.List.{List, map}
+use Prim.Native.Nat.{ℕ, _<_}
 use Rattle.aggregate.specs.declared.Aggregate.{Aggregate}
 use Rattle.aggregate.specs.Aggregate.{rootOf}
 use Rattle.wave.specs.internal.Wave.{report}
@@ -28,8 +29,8 @@ abbrev pub RendezvousOrdered : Type 0
 RendezvousOrdered = Ordered rules freshOn rootHeld
 
 -- "Before the report the sums of stations not finished add up to the map's total" (Stations that meet): on every accepted map, after every list
--- of calls without a report
+-- of calls without a report, class by class
 abbrev pub RendezvousConserved : Type 0
 RendezvousConserved =
     (m : Map) → Fits m → acceptance m ≡ accepted → (calls : List Call) → times report (map (labelOf rules) (callsMade rules (freshOn m) calls)) ≡ 0
-    → unfinished (m .k) (station (callsNet rules (freshOn m) calls)) ≡ totals m
+    → (j : ℕ) → j < m .classes → unfinished (m .k) (station (callsNet rules (freshOn m) calls)) j ≡ totals m j

@@ -19,18 +19,18 @@ put-line-requires c κs = search needs
 
 add-result : tie.Need-add-result
 add-result c =
-    let start = c .before .before .before .before .before in
+    let start = c .before .before .before .before .before .before .before in
     let n = c .before .before .put-line in
-    omega (arith, count-le (start .args .out .now) (start .args .at) (start .args .line) (start .pre) (n .ensures .0))
+    omega (arith, count-le (start .args .out .now) (start .args .at) (start .args .shown) (start .pre) (n .ensures .0))
 
 same-length : tie.Need-same-length
 same-length c = search needs
 
 returns : tie.Need-returns
 returns c =
-    let start = c .before .before .before .before .before in
+    let start = c .before .before .before .before .before .before .before in
     let n = c .before .before .put-line in
-    line-put-at (start .args .out .now) (start .args .at) (start .args .line) (start .pre) (n .ensures .0) (n .ensures .1)
+    line-put-at (start .args .out .now) (start .args .at) (start .args .shown) (start .pre) (n .ensures .0) (n .ensures .1)
 
 pub put-line-at-spec : {M : Type 1} → statement M
 put-line-at-spec =

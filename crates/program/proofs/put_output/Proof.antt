@@ -19,6 +19,9 @@ enum-known-answer c = search needs
 refusal-line-requires : tie.Need-refusal-line-requires
 refusal-line-requires c κs = search needs
 
+plain-requires : tie.Need-plain-requires
+plain-requires c κs = search needs
+
 put-line-at-requires : tie.Need-put-line-at-requires
 put-line-at-requires c κs = search needs
 
@@ -29,7 +32,7 @@ put-lot-requires : tie.Need-put-lot-requires
 put-lot-requires c κs =
     let o = c .before .before .before .before .before in
     let start = o .before .before .before .before in (
-      opens-map (start .args .input .now) (o .«open» .result) (o .«open» .ensures) (c .before .before .before .answer2 .given .1),
+      opens-map (start .args .input .now) (o .«open» .result) (o .«open» .ensures) (c .before .before .answer2 .given .1),
       o .before .if1 .left,
     )
 
@@ -39,14 +42,14 @@ same-length c = search needs
 returns-2 : tie.Need-returns-2
 returns-2 c =
     let p = c .before .before in
-    let o = p .before .before .before .before .before .before in
+    let o = p .before .before .before .before .before .before .before .before in
     let start = o .before .before .before .before in
     let s = start .args .input .now in
     let l = start .args .out .now in
     output-put s l (o .before .if1 .left)
     (line-fills s l (o .before .if1 .left)
-    (refusal-alone s (o .«open» .result) (o .«open» .ensures) (p .before .before .before .before .answer .given .1))
-    (rw (p .before .refusal-line .ensures) at (p .put-line-at .ensures)))
+    (refusal-alone s (o .«open» .result) (o .«open» .ensures) (p .before .before .before .before .before .answer .given .1))
+    (rw (p .before .plain .ensures, p .before .before .refusal-line .ensures) at (p .put-line-at .ensures)))
 
 same-length-2 : tie.Need-same-length-2
 same-length-2 c = search needs
@@ -66,6 +69,7 @@ put-output-spec =
     open-requires
     enum-known-answer
     refusal-line-requires
+    plain-requires
     put-line-at-requires
     enum-known-answer-2
     put-lot-requires

@@ -31,8 +31,8 @@ enum-known-answer c = search needs
 enum-told : tie.Need-enum-told Inv-loop μ-loop
 enum-told c = search needs
 
-step-line-requires : tie.Need-step-line-requires Inv-loop μ-loop
-step-line-requires c κs =
+show-step-requires : tie.Need-show-step-requires Inv-loop μ-loop
+show-step-requires c κs =
     let d = c .before .before .before .before in
     sender-below (d .before .before .before .loop .net) (d .before .draw-at .result) _ _ (d .draw .ensures)
     (c .before .before .answer .given .1)
@@ -45,7 +45,10 @@ put-line-at-requires c κs =
     (d .before .before .before .before .before .before .before .before .pre .1)
 
 add-made : tie.Need-add-made Inv-loop μ-loop
-add-made c = omega arith
+add-made c =
+    let turn = c .before .before .before .before .before .before .before .before .before .before .before in
+    let start = turn .before .before .before .before .before .before in
+    omega (arith, turn .loop-test .taken, start .fits .draws .fits)
 
 loop-less : tie.Need-loop-less Inv-loop μ-loop
 loop-less c = omega arith
@@ -56,7 +59,7 @@ loop-again c =
     let d = p .before .before .before .before .before .before in
     stands-next (d .before .before .before .loop .inv) (d .before .before .loop-test .taken) (d .before .draw-at .ensures) _ _
     (d .draw .ensures) (p .before .before .before .before .answer .given .1)
-    (rw (p .before .step-line .ensures) at (p .put-line-at .ensures))
+    (rw (p .before .show-step .ensures) at (p .put-line-at .ensures))
 
 same-length : tie.Need-same-length Inv-loop μ-loop
 same-length c = same-room (c .before .loop .inv)
@@ -85,7 +88,7 @@ put-steps-spec =
     draw-requires
     enum-known-answer
     enum-told
-    step-line-requires
+    show-step-requires
     put-line-at-requires
     add-made
     loop-less

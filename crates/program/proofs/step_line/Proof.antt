@@ -1,19 +1,9 @@
 -- `program::step_line` meets its contract: the kinds, one by one. Assumes nothing.
 use native.Mathlib.Omega.{arith}
 use borrow.Author.Tests.{ne-eqb}
-use borrow.Author.Needs.{needs}
 use Rattle.program.specs.Output.{stepLine}
 use Rattle.program.proofs.step_line.Statement.{statement}
 use Rattle.program.proofs.step_line.Tie as tie
-
-cast-at : tie.Need-cast-at
-cast-at c = search needs
-
-mul-sender : tie.Need-mul-sender
-mul-sender c = search needs
-
-element-copy-out-sender : tie.Need-element-copy-out-sender
-element-copy-out-sender c = search needs
 
 returns : tie.Need-returns
 unfolding stepLine
@@ -29,10 +19,9 @@ returns-3 c = rw (c .match .keys3)
 
 returns-4 : tie.Need-returns-4
 unfolding stepLine
-returns-4 c = let k = c .before .before .before .before .args .step .kind in
+returns-4 c =
+    let k = c .before .args .step .kind in
     rw (ne-eqb k 1 (λ e. omega arith), ne-eqb k 2 (λ e. omega arith), ne-eqb k 3 (λ e. omega arith))
 
 pub step-line-spec : {M : Type 1} → statement M
-step-line-spec =
-    tie.close
-    (tie.spec cast-at mul-sender element-copy-out-sender returns returns-2 returns-3 returns-4)
+step-line-spec = tie.close (tie.spec returns returns-2 returns-3 returns-4)

@@ -6,15 +6,14 @@ use lib.ListN.{length, take, drop}
 use Rattle.topology.specs.Answer.{accepted}
 use Rattle.linemap.specs.declared.Map.{Map}
 use Rattle.linemap.specs.Maps.{acceptance}
-use Rattle.text.specs.declared.Line.{Line}
-use Rattle.text.specs.Text.{textOf}
 use Rattle.text.specs.internal.Putting.{Room, Put}
 use Rattle.opening.specs.Opening.{inputOpening}
-use Rattle.program.specs.Output.{closingLine, linesOf, outputOf, mostLines, outputRoom}
+use Rattle.program.specs.declared.Shown.{Shown}
+use Rattle.program.specs.Output.{shownText, closingLine, linesOf, outputOf, mostLines, outputRoom}
 
 -- the bytes of these lines
-abbrev pub bytesOf : List Line → List ℕ
-bytesOf = flatMap textOf
+abbrev pub bytesOf : List Shown → List ℕ
+bytesOf = flatMap shownText
 
 -- the input s opens this map, which is accepted, with so many draws
 pub record Opens (s : List ℕ) (m : Map) (draws : ℕ) : Type 0 where

@@ -1,58 +1,84 @@
--- `text::put_aggregate` meets its contract: the text of the sum, then that of the missing number. Assumes nothing.
-use Rattle.text.specs.Ascii.{ascii}
-use Rattle.text.specs.Text.{item, aggregateText}
-use Rattle.text.proofs.Stores.{put-then, room-first, room-next}
-use Rattle.aggregate.specs.Aggregate.{missingOf}
+-- `text::put_aggregate` meets its contract: before class i the texts of the classes below it are put. Assumes nothing.
+use mathlib.Core.Path.{_≡_, refl}
+use mathlib.Core.List.{List}
+use Prim.Native.Nat.{ℕ, _-_, _≤_, _<_}
+use native.Mathlib.Omega.{arith}
 use borrow.Author.Needs.{needs}
+use lib.ListN.{length}
+use Rattle.finite.specs.Below.{each}
+use Rattle.aggregate.specs.Aggregate.{used, cell}
+use Rattle.text.specs.Text.{cellText, aggregateText}
+use Rattle.text.specs.internal.Putting.{Put}
+use Rattle.text.proofs.Stores.{room-piece, put-piece}
 use Rattle.text.proofs.put_aggregate.Statement.{statement}
 use Rattle.text.proofs.put_aggregate.Tie as tie
 
-slice-aggregate-put-item : tie.Need-slice-aggregate-put-item
-slice-aggregate-put-item c = search needs
+abbrev Inv-loop : tie.InvT-loop
+Inv-loop buf₀ at v classes end₀ class₀ buf end class =
+    (class ≤ classes) × (length buf ≡ length buf₀) × Put buf₀ at (each (λ (i : ℕ). cellText (cell v i)) class) buf end
 
-sum-of-requires : tie.Need-sum-of-requires
-sum-of-requires c κs = search needs
+abbrev μ-loop : tie.MeasureT-loop
+μ-loop buf₀ at v classes end₀ class₀ buf end class = classes - class
 
-put-item-requires : tie.Need-put-item-requires
+count-used-requires : tie.Need-count-used-requires Inv-loop μ-loop
+count-used-requires c κs = search needs
+
+loop-holds : tie.Need-loop-holds Inv-loop μ-loop
+unfolding each
+loop-holds c = (omega arith, refl, record { bytes = refl; end = omega arith })
+
+class-of-requires : tie.Need-class-of-requires Inv-loop μ-loop
+class-of-requires c κs = search needs
+
+put-cell-requires : tie.Need-put-cell-requires Inv-loop μ-loop
 unfolding aggregateText
-put-item-requires c κs =
-    let start = c .before .before .before .before in
-    rw (c .sum-of .ensures) (room-first (item (ascii " ") (missingOf (start .args .a))) (start .pre))
+put-cell-requires c κs =
+    let start = c .before .before .before .before .before .before in
+    let classes = c .before .before .before .before .count-used in
+    let l = c .before .before .before .loop in
+    let texts : ℕ → List ℕ = λ i. cellText (cell (start .args .v) i) in
+    let low : l .class < used (start .args .t) = rw (classes .ensures) at (c .before .before .loop-test .taken) in
+    rw (c .class-of .ensures) (room-piece texts low (start .pre) (l .inv .2))
 
-slice-aggregate-put-item-2 : tie.Need-slice-aggregate-put-item-2
-slice-aggregate-put-item-2 c = search needs
+add-class : tie.Need-add-class Inv-loop μ-loop
+add-class c = search needs
 
-missing-of-requires : tie.Need-missing-of-requires
-missing-of-requires c κs = search needs
+loop-less : tie.Need-loop-less Inv-loop μ-loop
+loop-less c = search needs
 
-cast-put-item : tie.Need-cast-put-item
-cast-put-item c = search needs
+loop-again : tie.Need-loop-again Inv-loop μ-loop
+loop-again c =
+    let put = c .before .before in
+    let l = put .before .before .before .before .loop in
+    let v = put .before .before .before .before .before .before .before .args .v in (
+      omega arith,
+      search needs,
+      put-piece (λ (i : ℕ). cellText (cell v i)) (l .inv .2) (rw (put .before .class-of .ensures) at (put .put-cell .ensures)),
+    )
 
-put-item-requires-2 : tie.Need-put-item-requires-2
-unfolding aggregateText
-put-item-requires-2 c κs =
-    let put = c .before .before .before .before .before in
-    rw (c .missing-of .ensures) (room-next (put .before .before .before .before .before .pre) (rw (put .before .sum-of .ensures) at (put .put-item .ensures)))
-
-same-length : tie.Need-same-length
+same-length : tie.Need-same-length Inv-loop μ-loop
 same-length c = search needs
 
-returns : tie.Need-returns
+returns : tie.Need-returns Inv-loop μ-loop
 unfolding aggregateText
 returns c =
-    let put = c .before .before .before .before .before .before .before .before in
-    put-then (rw (put .before .sum-of .ensures) at (put .put-item .ensures)) (rw (c .before .before .before .missing-of .ensures) at (c .before .before .put-item2 .ensures))
+    let start = c .before .before .before .before in
+    let l = c .before .loop in
+    let end : l .class ≡ used (start .args .t) = omega arith in
+    rw end at (l .inv .2)
 
 pub put-aggregate-spec : {M : Type 1} → statement M
 put-aggregate-spec =
     tie.close
     (tie.spec
-    slice-aggregate-put-item
-    sum-of-requires
-    put-item-requires
-    slice-aggregate-put-item-2
-    missing-of-requires
-    cast-put-item
-    put-item-requires-2
+    Inv-loop
+    μ-loop
+    count-used-requires
+    loop-holds
+    class-of-requires
+    put-cell-requires
+    add-class
+    loop-less
+    loop-again
     same-length
     returns)

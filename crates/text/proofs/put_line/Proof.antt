@@ -8,13 +8,15 @@ use Rattle.text.proofs.put_line.Statement.{statement}
 use Rattle.text.proofs.put_line.Tie as tie
 
 returns : tie.Need-returns
-returns c = line-left (c .before .before .args .buf .now) (c .before .before .args .line) (c .if1 .taken)
+returns c =
+    let start = c .before .before in
+    line-left (start .args .t) (start .args .v) (start .args .buf .now) (start .args .line) (c .if1 .taken)
 
 put-words-requires : tie.Need-put-words-requires
 unfolding textOf
 put-words-requires c κs =
-    room-first (ascii "\n") (line-room (c .before .before .before .args .buf .now) (c .before .before .before .args .line)
-    (c .before .if1 .left))
+    let start = c .before .before .before in
+    room-first (ascii "\n") (line-room (start .args .t) (start .args .v) (start .args .buf .now) (start .args .line) (c .before .if1 .left))
 
 slice-aggregate-put-word : tie.Need-slice-aggregate-put-word
 slice-aggregate-put-word c = search needs
@@ -22,9 +24,10 @@ slice-aggregate-put-word c = search needs
 put-word-requires : tie.Need-put-word-requires
 unfolding textOf
 put-word-requires c κs =
-    let start = c .before .before .before .before .before .before .before .before in
-    room-next (line-room (start .args .buf .now) (start .args .line) (c .before .before .before .before .before .before .if1 .left))
-    (c .before .before .before .before .put-words .ensures)
+    let put = c .before .before .before .before in
+    let start = put .before .before .before .before in
+    room-next (line-room (start .args .t) (start .args .v) (start .args .buf .now) (start .args .line) (put .before .before .if1 .left))
+    (put .put-words .ensures)
 
 same-length : tie.Need-same-length
 same-length c = search needs
@@ -32,9 +35,10 @@ same-length c = search needs
 returns-2 : tie.Need-returns-2
 unfolding textOf
 returns-2 c =
-    line-put (c .before .before .before .before .before .before .before .before .before .before .before .args .line)
-    (c .before .before .before .before .before .before .before .before .before .if1 .left)
-    (put-then (c .before .before .before .before .before .before .before .put-words .ensures) (c .before .before .put-word .ensures))
+    let put = c .before .before .before .before .before .before .before in
+    let start = put .before .before .before .before in
+    line-put (start .args .t) (start .args .v) (start .args .line) (put .before .before .if1 .left)
+    (put-then (put .put-words .ensures) (c .before .before .put-word .ensures))
 
 pub put-line-spec : {M : Type 1} → statement M
 put-line-spec =

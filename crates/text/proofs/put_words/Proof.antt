@@ -62,8 +62,8 @@ cast-put-two-6 c = search needs
 
 put-two-requires-3 : tie.Need-put-two-requires-3
 put-two-requires-3 c κs =
-    let g = c .before .before .before .before .line3 .given in
-    room-first (aggregateText (g .0 .1 .1 .0)) (rw (g .1) at (c .before .before .before .before .before .before .before .pre))
+    let start = c .before .before .before .before .before .before .before in
+    room-first (aggregateText (start .args .t) (start .args .v)) (rw (c .before .before .before .before .line3 .given .1) at (start .pre))
 
 put-aggregate-requires : tie.Need-put-aggregate-requires
 put-aggregate-requires c κs =
@@ -82,8 +82,8 @@ cast-put-item c = search needs
 
 put-item-requires : tie.Need-put-item-requires
 put-item-requires c κs =
-    let g = c .before .before .before .line4 .given in
-    room-first (aggregateText (g .0 .1 .0)) (rw (g .1) at (c .before .before .before .before .before .before .pre))
+    let start = c .before .before .before .before .before .before in
+    room-first (aggregateText (start .args .t) (start .args .v)) (rw (c .before .before .before .line4 .given .1) at (start .pre))
 
 put-aggregate-requires-2 : tie.Need-put-aggregate-requires-2
 put-aggregate-requires-2 c κs =

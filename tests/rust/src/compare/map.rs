@@ -3,8 +3,9 @@
 use super::Coverage;
 use crate::calls::{MapCalls, Model};
 use crate::gen::{bytes, map};
-use crate::model::map::{stored_length, Map};
+use crate::model::map::Map;
 use crate::model::refusal::number;
+use crate::model::MOST_CLASSES;
 use crate::rng::{for_cases, Rng};
 
 /// Bytes on either side of a lent buffer, which no call may touch.
@@ -20,8 +21,12 @@ pub fn reading(subject: &impl MapCalls, count: u64) {
         assert_eq!(subject.read(&lent, &mut given), expected, "reading {lent:?}");
         assert_eq!(given, due, "the map of {lent:?}");
         seen.note("read", number(&expected));
+        if expected.is_ok() {
+            seen.note("classes read", due.classes);
+        }
     });
     seen.require("read", 0..=10);
+    seen.require("classes read", 1..=MOST_CLASSES);
 }
 
 pub fn handing_over(subject: &impl MapCalls, count: u64) {
@@ -34,13 +39,14 @@ pub fn handing_over(subject: &impl MapCalls, count: u64) {
         seen.note("accept", number(&accepted));
         write(subject, rng, &map, &mut seen);
     });
-    seen.require("accept", [0, 3, 7, 8, 9, 10]);
-    seen.require("write", [0, 3, 7, 8, 9, 10, 15]);
+    seen.require("accept", [0, 2, 3, 7, 8, 9, 10]);
+    seen.require("write", [0, 2, 3, 7, 8, 9, 10, 15]);
+    seen.require("classes written", 1..=MOST_CLASSES);
 }
 
 /// Writes into a buffer of some length; what it fills reads back.
 fn write(subject: &impl MapCalls, rng: &mut Rng, map: &Map, seen: &mut Coverage) {
-    let needed = stored_length(map.k);
+    let needed = map.stored_length();
     let length = rng.pick(&[0, needed - 1, needed, needed, needed + 1, needed + 50]);
     let before = rng.bytes(length + 2 * MARGIN);
     let (mut given, mut due) = (before.clone(), before);
@@ -48,9 +54,10 @@ fn write(subject: &impl MapCalls, rng: &mut Rng, map: &Map, seen: &mut Coverage)
     let buffer = &mut given[MARGIN..MARGIN + length];
     assert_eq!(subject.write(map, buffer), expected, "writing {map:?} into {length} bytes");
     if expected.is_ok() {
-        let mut back = Map::empty(0, 0);
+        let mut back = Map::empty(0, 0, 0);
         assert_eq!(subject.read(&buffer[..needed], &mut back), Ok(()), "reading back {map:?}");
         assert_eq!(back, map.trimmed(), "what was written reads back");
+        seen.note("classes written", map.classes);
     }
     assert_eq!(given, due, "the buffer for {map:?}");
     seen.note("write", number(&expected));

@@ -5,16 +5,21 @@ pub mod net;
 pub mod program;
 pub mod station;
 
-use crate::model::aggregate::{Aggregate, MOST_MISSING, SUM_LIMIT};
+use crate::model::aggregate::{is_class_count, Aggregate, MOST_MISSING, SUM_LIMIT};
+use crate::model::MOST_CLASSES;
 use crate::rng;
 use std::collections::BTreeMap;
 
 /// By what something gathered is out of form.
 const EXCESSES: [&str; 3] = ["sum alone beyond", "missing number alone beyond", "sum and missing number beyond"];
 
-fn excess(gathered: Aggregate) -> Option<&'static str> {
+/// Of several classes, one alone is.
+const ONE_CLASS: &str = "one class beyond, of several:";
+
+fn excess(gathered: &Aggregate, classes: u8) -> Option<&'static str> {
     let [sum, missing, both] = EXCESSES;
-    match (gathered.sum >= SUM_LIMIT, gathered.missing > MOST_MISSING) {
+    let sums = gathered.cells(classes).any(|cell| cell.sum >= SUM_LIMIT);
+    match (sums, gathered.cells(classes).any(|cell| cell.missing > MOST_MISSING)) {
         (false, false) => None,
         (true, false) => Some(sum),
         (false, true) => Some(missing),
@@ -31,6 +36,28 @@ pub struct Coverage {
 impl Coverage {
     pub fn note(&mut self, what: &'static str, number: u8) {
         *self.met.entry((what, number)).or_default() += 1;
+    }
+
+    /// By what something gathered is out of form, where it is, and the class where it is one of several.
+    fn note_excess(&mut self, gathered: &Aggregate, classes: u8, number: u8) {
+        let Some(excess) = is_class_count(classes).then(|| excess(gathered, classes)).flatten() else { return };
+        self.note(excess, number);
+        let mut beyond = (0..classes).filter(|&class| !gathered.cell(class.into()).is_bounded());
+        if let (Some(class), None, true) = (beyond.next(), beyond.next(), classes > 1) {
+            self.note(ONE_CLASS, class);
+        }
+    }
+
+    /// Each excess was met with all of these numbers.
+    fn require_excesses(&self, numbers: &[u8]) {
+        for excess in EXCESSES {
+            self.require(excess, numbers.iter().copied());
+        }
+    }
+
+    /// Each class was beyond where the others were not.
+    fn require_each_class(&self) {
+        self.require(ONE_CLASS, 0..MOST_CLASSES);
     }
 
     pub fn require(&self, what: &'static str, numbers: impl IntoIterator<Item = u8>) {

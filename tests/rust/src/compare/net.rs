@@ -1,15 +1,16 @@
 //! Nets of either kind: answer, values and whole net after every call, and demand 3 on every list from a fresh net.
 
-use super::{excess, Coverage, EXCESSES};
+use super::Coverage;
 use crate::calls::{Call, Model, NetCalls, Reply};
 use crate::gen::call;
-use crate::gen::map::{accepted, all_linked_mixed, handed_over};
+use crate::gen::map::{accepted, accepted_of, all_linked_mixed, handed_over};
 use crate::gen::net::{any, junk, Sample};
 use crate::model::aggregate::Aggregate;
 use crate::model::demand::{check_run_formula, Record};
 use crate::model::map::Map;
 use crate::model::net::Net;
 use crate::model::refusal::number;
+use crate::model::{MOST_CLASSES, MOST_STATIONS};
 use crate::rng::{for_cases, Rng};
 
 /// One call on the subject and on the model.
@@ -29,9 +30,15 @@ fn assert_same<N: Net>(given: &N, due: &N, after: &impl std::fmt::Debug) {
         assert_eq!(given, due, "station {own} after {after:?}");
     }
     for (sender, (given, due)) in given.outboxes().iter().zip(due.outboxes()).enumerate() {
-        assert_eq!(given, due, "words of sender {sender} after {after:?}");
+        assert_eq!((given.starts, given.answers), (due.starts, due.answers), "sets of sender {sender} after {after:?}");
+        let receivers = if given == due { 0 } else { MOST_STATIONS };
+        for receiver in 0..receivers {
+            let (given, due) = (given.gathered(receiver), due.gathered(receiver));
+            assert_eq!(given, due, "words from {sender} to {receiver} after {after:?}");
+        }
     }
-    assert!(given == due, "k after {after:?}");
+    assert_eq!(given.config(), due.config(), "k and c after {after:?}");
+    assert!(given == due, "the net after {after:?}");
 }
 
 fn note<N: Net>(call: &Call, reply: &Reply, net: &N, seen: &mut Coverage) {
@@ -41,9 +48,7 @@ fn note<N: Net>(call: &Call, reply: &Reply, net: &N, seen: &mut Coverage) {
         Reply::Run(run) if run.at_rest => seen.note("run to rest", 0),
         _ => {}
     }
-    if let Some(excess) = excess_reached(reply, net) {
-        seen.note(excess, reply.number());
-    }
+    note_excess(reply, net, seen);
     let name = match call {
         Call::Step(_) => "step",
         Call::Draw(_) => "draw",
@@ -53,13 +58,15 @@ fn note<N: Net>(call: &Call, reply: &Reply, net: &N, seen: &mut Coverage) {
 }
 
 /// By what a call that made a step left the form: a step or a draw with 0, a run with 11.
-fn excess_reached<N: Net>(reply: &Reply, net: &N) -> Option<&'static str> {
+fn note_excess<N: Net>(reply: &Reply, net: &N, seen: &mut Coverage) {
     let was_in_form = match reply {
         Reply::Step(result) | Reply::Draw(result) => result.is_ok(),
         Reply::Run(run) => run.steps > 0,
     };
     let stations = if was_in_form { &net.stations()[..net.k().into()] } else { &[] };
-    stations.iter().find_map(|station| excess(station.held))
+    for station in stations {
+        seen.note_excess(&station.held, net.config().classes, reply.number());
+    }
 }
 
 /// The fresh net of a map handed over, laid over anything.
@@ -70,6 +77,9 @@ fn fresh<N: Sample>(subject: &impl NetCalls<N>, rng: &mut Rng, map: &Map, seen: 
     assert_eq!(subject.fresh(map, &mut given), expected, "the fresh net of {map:?}");
     assert_same(&given, &due, map);
     seen.note("fresh", number(&expected));
+    if expected.is_ok() {
+        seen.note("classes opened", map.classes);
+    }
     given
 }
 
@@ -80,7 +90,8 @@ pub fn freshness<N: Sample>(subject: &impl NetCalls<N>, count: u64) {
         let map = handed_over(rng);
         fresh(subject, rng, &map, &mut seen);
     });
-    seen.require("fresh", [0, 3, 7, 8, 9, 10]);
+    seen.require("fresh", [0, 2, 3, 7, 8, 9, 10]);
+    seen.require("classes opened", 1..=MOST_CLASSES);
 }
 
 /// Draws of a run on any net: enough for what a run keeps from step to step to go wrong.
@@ -99,9 +110,8 @@ pub fn hostile<N: Sample>(subject: &impl NetCalls<N>, count: u64) {
     seen.require("step", [0, 11, 12, 13]);
     seen.require("draw", [0, 11, 14]);
     seen.require("run", [0, 11]);
-    for excess in EXCESSES {
-        seen.require(excess, [0, 11]);
-    }
+    seen.require_excesses(&[0, 11]);
+    seen.require_each_class();
     require_kinds::<N>(&seen);
 }
 
@@ -152,19 +162,37 @@ pub fn list<N: Sample>(
     record.close(subject, &net);
 }
 
-/// One full run on 64 stations all linked, and demand 3 on it.
+/// One full run on 64 stations all linked, with one class and with eight, and demand 3 on it.
 pub fn full_run<N: Sample>(subject: &impl NetCalls<N>) {
-    for_cases(2, |rng| {
-        let map = all_linked_mixed(rng);
-        let mut seen = Coverage::default();
-        let mut net: N = fresh(subject, rng, &map, &mut seen);
-        let before = net.clone();
-        let call = Call::Run(call::draws(rng, Record::whole(&map) + 1));
-        let reply = compare(subject, &mut net, &call, &mut seen);
-        let mut record = Record::new::<N>(&map);
-        record.enter(subject, &before, &call, &reply, &net);
-        record.close(subject, &net);
+    for_cases(1, |rng| {
+        for classes in [1, MOST_CLASSES] {
+            let map = all_linked_mixed(rng, classes);
+            whole_wave(subject, rng, &map);
+        }
     });
+}
+
+/// A full run for every class count, on the smallest maps and on 64 stations, and demand 3 on it.
+pub fn every_class_count<N: Sample>(subject: &impl NetCalls<N>) {
+    for_cases(1, |rng| {
+        for classes in 1..=MOST_CLASSES {
+            for k in [1, 2, MOST_STATIONS] {
+                let map = accepted_of(rng, k, classes);
+                whole_wave(subject, rng, &map);
+            }
+        }
+    });
+}
+
+fn whole_wave<N: Sample>(subject: &impl NetCalls<N>, rng: &mut Rng, map: &Map) {
+    let mut seen = Coverage::default();
+    let mut net: N = fresh(subject, rng, map, &mut seen);
+    let before = net.clone();
+    let call = Call::Run(call::draws(rng, Record::whole(map) + 1));
+    let reply = compare(subject, &mut net, &call, &mut seen);
+    let mut record = Record::new::<N>(map);
+    record.enter(subject, &before, &call, &reply, &net);
+    record.close(subject, &net);
 }
 
 /// Both kinds of net report the same for the same map, in any order of steps.

@@ -4,6 +4,7 @@ use super::Coverage;
 use crate::gen::bytes::{input, of_length};
 use crate::gen::map::all_linked_mixed;
 use crate::model::text::{output, INPUT_LIMIT};
+use crate::model::MOST_CLASSES;
 use crate::rng::{for_cases, Rng};
 use std::io::{Read, Write};
 use std::path::{Path, PathBuf};
@@ -118,7 +119,7 @@ pub fn length_limit(program: &Program) {
     for_cases(2, |rng| {
         for (length, number) in [(INPUT_LIMIT, 0), (INPUT_LIMIT + 1, 17)] {
             let mut seen = Coverage::default();
-            let map = all_linked_mixed(rng);
+            let map = all_linked_mixed(rng, MOST_CLASSES);
             let input = of_length(rng, &map, length);
             compare(program, rng, &input, &mut seen);
             seen.require("program", [number]);

@@ -1,6 +1,6 @@
-//! All five events: result, values and whole record.
+//! All five events: result, values, whole record, and what is given.
 
-use super::{excess, Coverage, EXCESSES};
+use super::Coverage;
 use crate::calls::{Model, StationCalls};
 use crate::gen::station::{event, events, extreme_events, extremes, process};
 use crate::model::aggregate::Aggregate;
@@ -8,22 +8,22 @@ use crate::model::refusal::number;
 use crate::model::station::{Event, Process};
 use crate::rng::for_cases;
 
+/// One event on the subject and on the model.
 fn compare(subject: &impl StationCalls, process: Process, event: Event, seen: &mut Coverage) -> Process {
-    let (mut given, mut due) = (process, process);
-    let expected = Model.event(&mut due, event);
-    let answer = subject.event(&mut given, event);
-    assert_eq!((answer, given), (expected, due), "{event:?} on {process:?}");
+    let (mut left, mut due) = (process, process);
+    let (expected, given_due) = Model.event(&mut due, event);
+    let (answer, given) = subject.event(&mut left, event);
+    assert_eq!((answer, left), (expected, due), "{event:?} on {process:?}");
+    assert_eq!(given, given_due, "given for {event:?} on {process:?}");
     let number = number(&answer);
     seen.note(name(event), number);
     let looked_at = match event {
-        _ if answer.is_ok() => given.station.held,
+        _ if answer.is_ok() => left.station.held,
         Event::TakeAnswer(gathered) if number == 12 => gathered,
         _ => process.station.held,
     };
-    if let Some(excess) = excess(looked_at) {
-        seen.note(excess, number);
-    }
-    given
+    seen.note_excess(&looked_at, process.classes, number);
+    left
 }
 
 fn name(event: Event) -> &'static str {
@@ -44,9 +44,7 @@ fn require_all(seen: &Coverage) {
     for event in &events[..3] {
         seen.require(name(*event), [12]);
     }
-    for excess in EXCESSES {
-        seen.require(excess, [0, 11, 12]);
-    }
+    seen.require_excesses(&[0, 11, 12]);
 }
 
 /// Every field of the record, and every argument, at its extremes.
@@ -72,4 +70,5 @@ pub fn lists(subject: &impl StationCalls, count: u64) {
         }
     });
     require_all(&seen);
+    seen.require_each_class();
 }

@@ -5,7 +5,8 @@ use super::map::Map;
 use super::net::{Exports, Line, RunAnswer};
 use crate::model::mail::{Mail, Outbox};
 use crate::model::net::Step;
-use crate::model::PLACES;
+use crate::model::{CLASSES, PLACES};
+use std::array;
 
 /// The sets of all senders, and what their answers bring.
 #[derive(Clone)]
@@ -14,7 +15,7 @@ pub struct Words {
     starts: [u64; PLACES],
     answers: [u64; PLACES],
     missing: [[u64; PLACES]; PLACES],
-    sums: [[u64; PLACES]; PLACES],
+    sums: [[[u64; PLACES]; PLACES]; CLASSES],
 }
 
 /// What a call is lent, and no call may touch what stands between.
@@ -36,10 +37,10 @@ extern "C" {
 impl Words {
     fn of(outboxes: &[Outbox]) -> Words {
         Words {
-            starts: std::array::from_fn(|sender| outboxes[sender].starts),
-            answers: std::array::from_fn(|sender| outboxes[sender].answers),
-            missing: std::array::from_fn(|sender| outboxes[sender].missing),
-            sums: std::array::from_fn(|sender| outboxes[sender].sums),
+            starts: array::from_fn(|sender| outboxes[sender].starts),
+            answers: array::from_fn(|sender| outboxes[sender].answers),
+            missing: array::from_fn(|sender| outboxes[sender].missing),
+            sums: array::from_fn(|class| array::from_fn(|sender| outboxes[sender].sums[class])),
         }
     }
 
@@ -48,7 +49,7 @@ impl Words {
             starts: self.starts[sender],
             answers: self.answers[sender],
             missing: self.missing[sender],
-            sums: self.sums[sender],
+            sums: array::from_fn(|class| self.sums[class][sender]),
         };
         (0..PLACES).map(outbox).collect()
     }
@@ -58,12 +59,12 @@ impl LaidOut for Mail {
     type Layout = Net;
 
     fn lay_out(&self) -> Net {
-        Net { line: Line::of(self.k, &self.stations), between: Fence::INTACT, words: Words::of(&self.outboxes) }
+        Net { line: Line::of(self.config, &self.stations), between: Fence::INTACT, words: Words::of(&self.outboxes) }
     }
 
     fn take_back(Net { line, between, words }: &Net) -> Mail {
         between.assert_untouched();
-        Mail { k: line.k(), stations: line.stations(), outboxes: words.outboxes() }
+        Mail { config: line.config(), stations: line.stations(), outboxes: words.outboxes() }
     }
 }
 

@@ -5,14 +5,15 @@ use super::Library;
 use crate::calls::MapCalls;
 use crate::model::map as model;
 use crate::model::refusal::Refusal;
-use crate::model::PLACES;
+use crate::model::{CLASSES, PLACES};
 
 #[derive(Clone, Copy)]
 #[repr(C)]
 pub struct Map {
     k: u8,
+    classes: u8,
     lot: u32,
-    counts: [u32; PLACES],
+    counts: [[u32; CLASSES]; PLACES],
     neighbours: [u64; PLACES],
 }
 
@@ -27,13 +28,13 @@ impl LaidOut for model::Map {
     type Layout = Map;
 
     fn lay_out(&self) -> Map {
-        let model::Map { k, lot, counts, neighbours } = *self;
-        Map { k, lot, counts, neighbours }
+        let model::Map { k, classes, lot, counts, neighbours } = *self;
+        Map { k, classes, lot, counts, neighbours }
     }
 
     fn take_back(layout: &Map) -> model::Map {
-        let Map { k, lot, counts, neighbours } = *layout;
-        model::Map { k, lot, counts, neighbours }
+        let Map { k, classes, lot, counts, neighbours } = *layout;
+        model::Map { k, classes, lot, counts, neighbours }
     }
 }
 

@@ -17,11 +17,11 @@ impl LaidOut for Meet {
     type Layout = Line;
 
     fn lay_out(&self) -> Line {
-        Line::of(self.k, &self.stations)
+        Line::of(self.config, &self.stations)
     }
 
     fn take_back(layout: &Line) -> Meet {
-        Meet { k: layout.k(), stations: layout.stations() }
+        Meet { config: layout.config(), stations: layout.stations() }
     }
 }
 

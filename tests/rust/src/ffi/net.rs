@@ -5,7 +5,7 @@ use super::station::Station;
 use super::{map, Library};
 use crate::calls::NetCalls;
 use crate::model::map::Map;
-use crate::model::net::{Run, Step};
+use crate::model::net::{self as rules, Run, Step};
 use crate::model::refusal::Refusal;
 use crate::model::{station as model, PLACES};
 
@@ -14,6 +14,7 @@ use crate::model::{station as model, PLACES};
 #[repr(C)]
 struct Config {
     k: u8,
+    classes: u8,
 }
 
 /// The stations of a net of either kind; where they meet, the whole net.
@@ -25,12 +26,13 @@ pub struct Line {
 }
 
 impl Line {
-    pub fn of(k: u8, stations: &[model::Station; PLACES]) -> Line {
-        Line { config: Config { k }, stations: stations.each_ref().map(LaidOut::lay_out) }
+    pub fn of(rules::Config { k, classes }: rules::Config, stations: &[model::Station; PLACES]) -> Line {
+        Line { config: Config { k, classes }, stations: stations.each_ref().map(LaidOut::lay_out) }
     }
 
-    pub fn k(&self) -> u8 {
-        self.config.k
+    pub fn config(&self) -> rules::Config {
+        let Config { k, classes } = self.config;
+        rules::Config { k, classes }
     }
 
     pub fn stations(&self) -> [model::Station; PLACES] {

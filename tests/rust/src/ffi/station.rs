@@ -5,13 +5,14 @@ use super::Library;
 use crate::calls::StationCalls;
 use crate::model::aggregate;
 use crate::model::refusal::Refusal;
-use crate::model::station::{self as model, Answer, Event};
+use crate::model::station::{self as model, Event};
+use crate::model::CLASSES;
 
 #[derive(Clone, Copy)]
 #[repr(C)]
 pub struct Aggregate {
-    sum: u64,
-    missing: u8,
+    sums: [u64; CLASSES],
+    missing: [u8; CLASSES],
 }
 
 #[derive(Clone, Copy)]
@@ -24,10 +25,17 @@ pub struct Station {
     state: u8,
 }
 
+#[repr(C)]
+struct Given {
+    answer: Packed,
+    held: Aggregate,
+}
+
 #[derive(Clone, Copy)]
 #[repr(C)]
 pub struct Process {
     own: u8,
+    classes: u8,
     station: Station,
 }
 
@@ -35,21 +43,21 @@ extern "C" {
     fn tally_process_take_start(process: *mut Process, from: u8) -> Packed;
     fn tally_process_send_start(process: *mut Process, to: u8) -> Packed;
     fn tally_process_take_answer(process: *mut Process, answer: Aggregate) -> Packed;
-    fn tally_process_send_answer(process: *mut Process) -> Packed;
-    fn tally_process_report(process: *mut Process) -> Packed;
+    fn tally_process_send_answer(process: *mut Process) -> Given;
+    fn tally_process_report(process: *mut Process) -> Given;
 }
 
 impl LaidOut for aggregate::Aggregate {
     type Layout = Aggregate;
 
     fn lay_out(&self) -> Aggregate {
-        let aggregate::Aggregate { sum, missing } = *self;
-        Aggregate { sum, missing }
+        let aggregate::Aggregate { sums, missing } = *self;
+        Aggregate { sums, missing }
     }
 
     fn take_back(layout: &Aggregate) -> aggregate::Aggregate {
-        let Aggregate { sum, missing } = *layout;
-        aggregate::Aggregate { sum, missing }
+        let Aggregate { sums, missing } = *layout;
+        aggregate::Aggregate { sums, missing }
     }
 }
 
@@ -71,35 +79,34 @@ impl LaidOut for model::Process {
     type Layout = Process;
 
     fn lay_out(&self) -> Process {
-        Process { own: self.own, station: self.station.lay_out() }
+        Process { own: self.own, classes: self.classes, station: self.station.lay_out() }
     }
 
     fn take_back(layout: &Process) -> model::Process {
-        model::Process { own: layout.own, station: LaidOut::take_back(&layout.station) }
+        let Process { own, classes, station } = layout;
+        model::Process { own: *own, classes: *classes, station: LaidOut::take_back(station) }
     }
 }
 
-/// An answer and a report come with the parent; what they give is what the record holds then.
-fn answer(packed: Packed, process: &Process) -> Result<Option<Answer>, Refusal> {
-    let parent = packed.given()?.try_into().expect("a parent");
-    Ok(Some(Answer { parent, gathered: LaidOut::take_back(&process.station.held) }))
+/// An answer and a report come with the parent.
+fn parent(Given { answer, held }: Given) -> (Result<Option<u8>, Refusal>, aggregate::Aggregate) {
+    (answer.given().map(|value| Some(value.try_into().expect("a parent"))), LaidOut::take_back(&held))
+}
+
+/// The other events come with nothing.
+fn nothing(answer: Packed) -> (Result<Option<u8>, Refusal>, aggregate::Aggregate) {
+    (answer.done().map(|()| None), aggregate::Aggregate::default())
 }
 
 impl StationCalls for Library {
-    fn event(&self, process: &mut model::Process, event: Event) -> Result<Option<Answer>, Refusal> {
-        lend_mut(process, |process| {
-            let packed = unsafe {
-                match event {
-                    Event::TakeStart(from) => tally_process_take_start(process, from),
-                    Event::SendStart(to) => tally_process_send_start(process, to),
-                    Event::TakeAnswer(gathered) => tally_process_take_answer(process, gathered.lay_out()),
-                    Event::SendAnswer => tally_process_send_answer(process),
-                    Event::Report => tally_process_report(process),
-                }
-            };
+    fn event(&self, process: &mut model::Process, event: Event) -> (Result<Option<u8>, Refusal>, aggregate::Aggregate) {
+        lend_mut(process, |process| unsafe {
             match event {
-                Event::SendAnswer | Event::Report => answer(packed, process),
-                _ => packed.done().map(|()| None),
+                Event::TakeStart(from) => nothing(tally_process_take_start(process, from)),
+                Event::SendStart(to) => nothing(tally_process_send_start(process, to)),
+                Event::TakeAnswer(gathered) => nothing(tally_process_take_answer(process, gathered.lay_out())),
+                Event::SendAnswer => parent(tally_process_send_answer(process)),
+                Event::Report => parent(tally_process_report(process)),
             }
         })
     }

@@ -1,7 +1,8 @@
-//! Sums and missing numbers: in form, on both sides of each bound, and such that an answer takes them over one bound
-//! alone.
+//! Sums and missing numbers of the classes: in form, on both sides of each bound, and such that an answer takes one class
+//! over one bound alone. Past c stands anything.
 
-use crate::model::aggregate::{Aggregate, MOST_MISSING, SUM_LIMIT};
+use crate::model::aggregate::{in_use, Aggregate, Cell, MOST_MISSING, SUM_LIMIT};
+use crate::model::{CLASSES, MOST_CLASSES};
 use crate::rng::Rng;
 
 /// On both sides of the bound, those in form first.
@@ -10,14 +11,53 @@ pub const MISSING: [u8; 5] = [0, 63, 64, 65, 255];
 
 const SUMS_IN_FORM: &[u64] = SUMS.split_at(3).0;
 const MISSING_IN_FORM: &[u8] = MISSING.split_at(3).0;
-pub const SUMS_BEYOND: &[u64] = SUMS.split_at(3).1;
-pub const MISSING_BEYOND: &[u8] = MISSING.split_at(3).1;
+const SUMS_BEYOND: &[u64] = SUMS.split_at(3).1;
+const MISSING_BEYOND: &[u8] = MISSING.split_at(3).1;
 
 /// Two of them often come to 64 or 65.
 const MISSING_NEAR: [u8; 8] = [1, 2, 31, 32, 33, 62, 63, 64];
 
-pub fn in_form(rng: &mut Rng) -> Aggregate {
-    Aggregate { sum: sum_in_form(rng), missing: missing_in_form(rng) }
+/// Numbers that are no class count.
+pub const NO_CLASS_COUNTS: [u8; 4] = [0, 9, 128, 255];
+
+/// A class count: 1 and 8 often.
+pub fn class_count(rng: &mut Rng) -> u8 {
+    match rng.below(3) {
+        0 => 1,
+        1 => MOST_CLASSES,
+        _ => 1 + rng.station(MOST_CLASSES),
+    }
+}
+
+/// A class in use: the last often.
+pub fn class(rng: &mut Rng, classes: u8) -> usize {
+    let any = rng.index(classes.into());
+    rng.pick(&[any, any, usize::from(classes) - 1])
+}
+
+/// One class may hold any cell in form, the others mostly little, so that a run goes on.
+pub fn in_form(rng: &mut Rng, classes: u8) -> Aggregate {
+    let loud = class(rng, classes);
+    with_stray(rng, classes, |rng, class| {
+        if class == loud || rng.chance(5) {
+            Cell { sum: sum_in_form(rng), missing: missing_in_form(rng) }
+        } else {
+            quiet(rng)
+        }
+    })
+}
+
+/// The cells of the classes in use, and anything past c.
+fn with_stray(rng: &mut Rng, classes: u8, mut cell: impl FnMut(&mut Rng, usize) -> Cell) -> Aggregate {
+    let mut held = any(rng);
+    for class in in_use(classes) {
+        held.put(class, cell(rng, class));
+    }
+    held
+}
+
+fn quiet(rng: &mut Rng) -> Cell {
+    Cell { sum: rng.below(1 << 32), missing: rng.station(3) }
 }
 
 fn sum_in_form(rng: &mut Rng) -> u64 {
@@ -37,23 +77,25 @@ fn missing_in_form(rng: &mut Rng) -> u8 {
     }
 }
 
-/// Both numbers at one of their extremes, or one of them and the other anything.
-pub fn extreme(rng: &mut Rng) -> Aggregate {
-    let (sum, missing) = (rng.pick(&SUMS), rng.pick(&MISSING));
-    let any = any(rng);
-    rng.pick(&[Aggregate { sum, missing }, Aggregate { sum, ..any }, Aggregate { missing, ..any }])
-}
-
-/// Out of form by the sum, by the missing number, or by both.
-pub fn beyond(rng: &mut Rng) -> Aggregate {
+/// Takes one class out of form, by the sum, by the missing number, or by both.
+pub fn spoil(rng: &mut Rng, held: &mut Aggregate, class: usize) {
     let (sum, missing) = (rng.pick(SUMS_BEYOND), rng.pick(MISSING_BEYOND));
-    let held = in_form(rng);
-    rng.pick(&[Aggregate { sum, ..held }, Aggregate { missing, ..held }, Aggregate { sum, missing }])
+    let cell = held.cell(class);
+    held.put(class, rng.pick(&[Cell { sum, ..cell }, Cell { missing, ..cell }, Cell { sum, missing }]));
 }
 
-/// Any bits at all.
+/// Any bits at all, and now and then a number at one of its extremes.
 pub fn any(rng: &mut Rng) -> Aggregate {
-    Aggregate { sum: rng.bits(), missing: rng.byte() }
+    let mut held = Aggregate { sums: [0; CLASSES], missing: rng.bits().to_le_bytes() };
+    for sum in &mut held.sums {
+        *sum = rng.bits();
+    }
+    for _ in 0..rng.below(4) {
+        let class = rng.index(CLASSES);
+        held.sums[class] = rng.pick(&SUMS);
+        held.missing[rng.index(CLASSES)] = rng.pick(&MISSING);
+    }
+    held
 }
 
 /// Which bound an answer is to take a station over.
@@ -66,12 +108,22 @@ pub enum Bound {
 
 pub const BOUNDS: [Bound; 3] = [Bound::OfSums, Bound::OfMissing, Bound::OfBoth];
 
-/// In form, and near a bound.
-pub fn near(rng: &mut Rng, bound: Bound) -> Aggregate {
+/// In form, and one class near a bound, or all.
+pub fn near(rng: &mut Rng, classes: u8, class: Option<usize>, bound: Bound) -> Aggregate {
+    with_stray(rng, classes, |rng, at| if class.unwrap_or(at) == at { near_bound(rng, bound) } else { quiet(rng) })
+}
+
+fn near_bound(rng: &mut Rng, bound: Bound) -> Cell {
     let (sum, missing) = (SUM_LIMIT - 1 - rng.below(3), rng.pick(&MISSING_NEAR));
     match bound {
-        Bound::OfSums => Aggregate { sum, missing: rng.station(2) },
-        Bound::OfMissing => Aggregate { sum: rng.below(1 << 32), missing },
-        Bound::OfBoth => Aggregate { sum, missing },
+        Bound::OfSums => Cell { sum, missing: rng.station(2) },
+        Bound::OfMissing => Cell { sum: rng.below(1 << 32), missing },
+        Bound::OfBoth => Cell { sum, missing },
     }
+}
+
+/// Anything past c.
+pub fn litter(rng: &mut Rng, held: &mut Aggregate, classes: u8) {
+    let kept = *held;
+    *held = with_stray(rng, classes, |_, class| kept.cell(class));
 }

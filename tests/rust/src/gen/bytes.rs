@@ -3,13 +3,14 @@
 use super::call;
 use super::map::{accepted, break_rules};
 use crate::model::demand::Record;
-use crate::model::map::{stored, stored_length, word_sum, Map, TRAILER};
+use crate::model::map::{row_length, stored, word_sum, Map, TRAILER};
 use crate::model::text::INPUT_LIMIT;
+use crate::model::MOST_CLASSES;
 use crate::rng::Rng;
 
 /// Bytes to read a map from: zeros, anything, or a map, whose rules may be broken and whose bytes may be damaged.
 pub fn lent(rng: &mut Rng) -> Vec<u8> {
-    let length = if rng.chance(30) { rng.index(TRAILER + 1) } else { rng.index(900) };
+    let length = if rng.chance(30) { rng.index(TRAILER + 1) } else { rng.index(3_000) };
     match rng.below(20) {
         0 => return vec![0; length],
         1 => return rng.bytes(length),
@@ -21,7 +22,7 @@ pub fn lent(rng: &mut Rng) -> Vec<u8> {
     }
     let mut bytes = preceded(rng, &map);
     if rng.chance(50) {
-        damage(rng, map.k, &mut bytes);
+        damage(rng, &map, &mut bytes);
     }
     bytes
 }
@@ -40,7 +41,7 @@ fn preceded(rng: &mut Rng, map: &Map) -> Vec<u8> {
 }
 
 /// Spoils stored bytes in one way.
-fn damage(rng: &mut Rng, k: u8, bytes: &mut Vec<u8>) {
+fn damage(rng: &mut Rng, map: &Map, bytes: &mut Vec<u8>) {
     match rng.below(8) {
         0 => change_byte(rng, bytes),
         1 => bytes.truncate(rng.index(bytes.len())),
@@ -52,7 +53,7 @@ fn damage(rng: &mut Rng, k: u8, bytes: &mut Vec<u8>) {
             let length = 1 + rng.index(20);
             bytes.extend(rng.bytes(length));
         }
-        _ => change_trailer(rng, k, bytes),
+        _ => change_trailer(rng, map, bytes),
     }
 }
 
@@ -61,35 +62,53 @@ fn change_byte(rng: &mut Rng, bytes: &mut [u8]) {
     bytes[at] ^= 1 + rng.station(255);
 }
 
-/// Changes one or two of k, row length and distance, with a check word that fits: the rules before the check word must
+/// Numbers that are no row length: on both sides of those that are, between them, and with one of them in either byte.
+const NO_ROW_LENGTHS: [u16; 11] = [0, 4, 8, 11, 13, 14, 41, 44, 12 << 8, 256 + 12, u16::MAX];
+
+/// A row length, or a number that is none.
+fn any_row_length(rng: &mut Rng) -> u16 {
+    if rng.chance(50) {
+        row_length(1 + rng.station(MOST_CLASSES)) as u16
+    } else {
+        rng.pick(&NO_ROW_LENGTHS)
+    }
+}
+
+/// Changes one or more of k, row length and distance, with a check word that fits: the rules before the check word must
 /// see it.
-fn change_trailer(rng: &mut Rng, k: u8, bytes: &mut [u8]) {
+fn change_trailer(rng: &mut Rng, map: &Map, bytes: &mut [u8]) {
     let start = bytes.len() - TRAILER;
-    let mut claimed = u16::from(k);
-    for _ in 0..1 + rng.below(2) {
+    let (mut k, mut row) = (u16::from(map.k), row_length(map.classes) as u16);
+    for _ in 0..1 + rng.below(3) {
         match rng.below(3) {
             0 => {
-                claimed = rng.pick(&[0, 1, 64, 65, 255, 256, 257, u16::MAX, u16::from(k) - 1, u16::from(k) + 1]);
-                put(bytes, start, &claimed.to_le_bytes());
+                k = rng.pick(&[0, 1, 64, 65, 255, 256, 257, u16::MAX, u16::from(map.k) - 1, u16::from(map.k) + 1]);
+                put(bytes, start, &k.to_le_bytes());
             }
-            1 => put(bytes, start + 2, &rng.pick(&[0u16, 11, 12, 13, 12 << 8, 256 + 12, u16::MAX]).to_le_bytes()),
-            _ => {
-                let rows = 12 * u32::from(claimed);
-                let distance = rng.pick(&[rows, rows, rows, rows + 1, rows + 12, rows.wrapping_sub(1), 0, u32::MAX]);
-                put(bytes, start + 4, &distance.to_le_bytes());
+            1 => {
+                row = any_row_length(rng);
+                put(bytes, start + 2, &row.to_le_bytes());
             }
+            _ => put(bytes, start + 4, &any_distance(rng, k, row).to_le_bytes()),
         }
     }
-    seal(bytes, claimed);
+    seal(bytes, k, row);
+}
+
+/// Mostly what k and the row length come to, else a little off, or by another row length.
+fn any_distance(rng: &mut Rng, k: u16, row: u16) -> u32 {
+    let (k, row) = (u32::from(k), u32::from(row));
+    let (rows, by_another) = (row * k, u32::from(any_row_length(rng)).wrapping_mul(k));
+    rng.pick(&[rows, rows, rows, rows, rows + 1, rows + row, rows.wrapping_sub(1), 12 * k, by_another, 0, u32::MAX])
 }
 
 fn put(bytes: &mut [u8], at: usize, field: &[u8]) {
     bytes[at..at + field.len()].copy_from_slice(field);
 }
 
-/// Makes the words of the map that k claims add to zero, where all its bytes are there.
-fn seal(bytes: &mut [u8], k: u16) {
-    let needed = u8::try_from(k).map_or(usize::MAX, stored_length);
+/// Makes the words of the map that k and the row length claim add to zero, where all its bytes are there.
+fn seal(bytes: &mut [u8], k: u16, row: u16) {
+    let needed = usize::from(k) * usize::from(row) + TRAILER;
     let check = bytes.len() - 4;
     if needed <= bytes.len() {
         let sum = word_sum(&bytes[bytes.len() - needed..check]);
@@ -104,7 +123,7 @@ pub fn input(rng: &mut Rng) -> Vec<u8> {
         0..=39 => with_draws(&draws_around_whole(rng, &map), &map),
         40..=49 => {
             let odd = 1 + 2 * rng.index(50);
-            of_length(rng, &map, stored_length(map.k) + odd)
+            of_length(rng, &map, map.stored_length() + odd)
         }
         50..=52 => {
             let length = INPUT_LIMIT - 2 + rng.index(5);
@@ -134,7 +153,7 @@ fn draws_around_whole(rng: &mut Rng, map: &Map) -> Vec<u16> {
 
 /// An input of a given length that ends with a map.
 pub fn of_length(rng: &mut Rng, map: &Map, length: usize) -> Vec<u8> {
-    let mut bytes = rng.bytes(length - stored_length(map.k));
+    let mut bytes = rng.bytes(length - map.stored_length());
     bytes.extend(stored(map));
     bytes
 }

@@ -1,9 +1,10 @@
 //! Words of mail: any bits in both sets, and any sums and missing numbers, on both sides of their bounds, beside an
-//! answer or not.
+//! answer or not, and past c.
 
 use super::aggregate;
 use crate::model::aggregate::Aggregate;
 use crate::model::mail::{Message, Outbox};
+use crate::model::net::Config;
 use crate::model::{set, PLACES};
 use crate::rng::Rng;
 
@@ -16,65 +17,56 @@ fn bits(rng: &mut Rng, sparsity: Sparsity) -> u64 {
     (0..sparsity).fold(u64::MAX, |set, _| set & rng.bits())
 }
 
-/// The bytes of a missing word that are not looked at.
-const IDLE: u64 = !0xff;
-
 /// Any words: both bits may be set, and anything may stand beside any of them.
 pub fn any(rng: &mut Rng, sparsity: Sparsity) -> Outbox {
     let mut outbox = Outbox { starts: bits(rng, sparsity), answers: bits(rng, sparsity), ..Outbox::EMPTY };
-    for receiver in 0..PLACES {
-        let held = aggregate::extreme(rng);
-        fill(&mut outbox, receiver, held);
-        outbox.missing[receiver] |= idle(rng);
+    for receiver in 0..PLACES as u8 {
+        outbox.put(receiver, &aggregate::any(rng));
     }
     outbox
 }
 
-/// Puts what an answer brings into its words, and leaves the idle bytes.
-fn fill(outbox: &mut Outbox, receiver: usize, Aggregate { sum, missing }: Aggregate) {
-    outbox.sums[receiver] = sum;
-    outbox.missing[receiver] = outbox.missing[receiver] & IDLE | u64::from(missing);
-}
-
-/// As a post leaves them, or anything.
-fn idle(rng: &mut Rng) -> u64 {
-    if rng.chance(50) {
-        0
-    } else {
-        rng.bits() & IDLE
+/// The answer in a box.
+fn answer(outbox: &Outbox, receiver: u8) -> Option<Aggregate> {
+    match outbox.mailbox(receiver) {
+        Some(Message::Answer(gathered)) => Some(gathered),
+        _ => None,
     }
 }
 
-/// Makes the answers fit that wait for other stations below k; the stray words stay, and so do the idle bytes.
-pub fn bring_into_form(rng: &mut Rng, outbox: &mut Outbox, sender: u8, k: u8) {
+/// Makes the answers fit that wait for other stations below k; the stray words stay.
+pub fn bring_into_form(rng: &mut Rng, outbox: &mut Outbox, sender: u8, Config { k, classes }: Config) {
     for receiver in (0..k).filter(|&receiver| receiver != sender) {
-        if matches!(outbox.mailbox(receiver), Some(Message::Answer(gathered)) if !gathered.is_bounded()) {
-            fill(outbox, receiver.into(), aggregate::in_form(rng));
+        if answer(outbox, receiver).is_some_and(|gathered| !gathered.is_bounded(classes)) {
+            outbox.put(receiver, &aggregate::in_form(rng, classes));
         }
     }
 }
 
-/// Posts an answer that is out of form.
-pub fn spoil(rng: &mut Rng, outbox: &mut Outbox, receiver: u8) {
-    outbox.post(receiver, Message::Answer(aggregate::beyond(rng)));
-    outbox.missing[usize::from(receiver)] |= idle(rng);
+/// Posts an answer that is out of form in one class.
+pub fn spoil(rng: &mut Rng, outbox: &mut Outbox, receiver: u8, classes: u8) {
+    let mut gathered = aggregate::in_form(rng, classes);
+    let class = aggregate::class(rng, classes);
+    aggregate::spoil(rng, &mut gathered, class);
+    outbox.post(receiver, Message::Answer(gathered));
 }
 
-/// Anything in the places of boxes that do not exist, in the words beside no answer, and in idle bytes.
-pub fn litter(rng: &mut Rng, outbox: &mut Outbox, sender: u8, k: u8) {
+/// Anything in the places of boxes that do not exist, in the words beside no answer, and past c.
+pub fn litter(rng: &mut Rng, outbox: &mut Outbox, sender: u8, Config { k, classes }: Config) {
     let sparsity = rng.pick(&SPARSITIES);
-    let other = any(rng, sparsity);
+    let (starts, answers) = (bits(rng, sparsity), bits(rng, sparsity));
     for receiver in 0..PLACES as u8 {
         let exists = sender < k && receiver < k && sender != receiver;
         let bit = if exists { 0 } else { set::singleton(receiver) };
-        outbox.starts = outbox.starts & !bit | other.starts & bit;
-        outbox.answers = outbox.answers & !bit | other.answers & bit;
-        let at = usize::from(receiver);
-        if !exists || !matches!(outbox.mailbox(receiver), Some(Message::Answer(_))) {
-            outbox.sums[at] = other.sums[at];
-            outbox.missing[at] = other.missing[at];
-        } else {
-            outbox.missing[at] = outbox.missing[at] & !IDLE | other.missing[at] & IDLE;
-        }
+        outbox.starts = outbox.starts & !bit | starts & bit;
+        outbox.answers = outbox.answers & !bit | answers & bit;
+        let words = match answer(outbox, receiver) {
+            Some(mut gathered) if exists => {
+                aggregate::litter(rng, &mut gathered, classes);
+                gathered
+            }
+            _ => aggregate::any(rng),
+        };
+        outbox.put(receiver, &words);
     }
 }

@@ -1,12 +1,16 @@
-//! Maps: accepted ones of every shape and size, and ones that break the rules 3, 7 to 10.
+//! Maps: accepted ones of every shape, size and class count, and ones that break the rules 2, 3, 7 to 10.
 
-use crate::model::aggregate::NO_READING;
+use super::aggregate::{class_count, NO_CLASS_COUNTS};
+use crate::model::aggregate::{in_use, NO_READING};
 use crate::model::map::Map;
 use crate::model::{set, MOST_STATIONS, PLACES};
 use crate::rng::Rng;
 
 /// The largest count that is a reading.
 pub const LARGEST_COUNT: u32 = NO_READING - 1;
+
+/// Numbers that are no k.
+pub const NO_STATION_COUNTS: [u8; 5] = [0, 65, 66, 128, 255];
 
 /// Links between the places of a shape, before the stations are dealt out.
 type Links = Vec<(u8, u8)>;
@@ -17,14 +21,14 @@ pub fn station_count(rng: &mut Rng) -> u8 {
     1 + rng.station(most)
 }
 
-/// An accepted map, zero past k.
+/// An accepted map, zero past k and past c.
 pub fn accepted(rng: &mut Rng) -> Map {
-    let k = station_count(rng);
-    accepted_of(rng, k)
+    let (k, classes) = (station_count(rng), class_count(rng));
+    accepted_of(rng, k, classes)
 }
 
-pub fn accepted_of(rng: &mut Rng, k: u8) -> Map {
-    let mut map = Map::empty(k, rng.bits() as u32);
+pub fn accepted_of(rng: &mut Rng, k: u8, classes: u8) -> Map {
+    let mut map = Map::empty(k, classes, rng.bits() as u32);
     let links = shape(rng, k);
     let station_at = permutation(rng, k);
     for (a, b) in links {
@@ -34,20 +38,22 @@ pub fn accepted_of(rng: &mut Rng, k: u8) -> Map {
     map
 }
 
-/// All 64 stations linked to each other, with one count for all.
-pub fn all_linked(count: u32) -> Map {
-    let mut map = Map::empty(MOST_STATIONS, 1);
+/// All 64 stations linked to each other, with the same counts for all.
+pub fn all_linked(counts: &[u32]) -> Map {
+    let mut map = Map::empty(MOST_STATIONS, counts.len() as u8, 1);
     for (a, b) in clique(MOST_STATIONS) {
         link(&mut map, a, b);
     }
-    map.counts.fill(count);
+    for of_station in &mut map.counts {
+        of_station[..counts.len()].copy_from_slice(counts);
+    }
     map
 }
 
 /// The same with the largest count or no reading at each: the longest lines come of it.
-pub fn all_linked_mixed(rng: &mut Rng) -> Map {
-    let mut map = all_linked(LARGEST_COUNT);
-    for count in &mut map.counts {
+pub fn all_linked_mixed(rng: &mut Rng, classes: u8) -> Map {
+    let mut map = all_linked(&vec![LARGEST_COUNT; classes.into()]);
+    for count in map.counts.iter_mut().flat_map(|counts| &mut counts[in_use(classes)]) {
         *count = rng.pick(&[LARGEST_COUNT, LARGEST_COUNT, NO_READING]);
     }
     map
@@ -98,38 +104,51 @@ fn permutation(rng: &mut Rng, k: u8) -> Vec<u8> {
     places
 }
 
+/// Each class has a style of its own.
 fn fill_counts(rng: &mut Rng, map: &mut Map) {
-    let style = rng.below(5);
-    for count in &mut map.counts[..map.k.into()] {
-        *count = match style {
-            0 => rng.below(20) as u32,
-            1 => rng.pick(&[0, 1, LARGEST_COUNT, NO_READING]),
-            2 => NO_READING,
-            3 if rng.chance(30) => NO_READING,
-            _ => rng.bits() as u32,
-        };
+    for class in in_use(map.classes) {
+        let style = rng.below(5);
+        for counts in &mut map.counts[..map.k.into()] {
+            counts[class] = match style {
+                0 => rng.below(20) as u32,
+                1 => rng.pick(&[0, 1, LARGEST_COUNT, NO_READING]),
+                2 => NO_READING,
+                3 if rng.chance(30) => NO_READING,
+                _ => rng.bits() as u32,
+            };
+        }
     }
 }
 
-/// Anything past k: writing ignores it.
-pub fn litter(rng: &mut Rng, map: &mut Map) {
-    for place in usize::from(map.k)..PLACES {
-        map.counts[place] = if rng.chance(50) { NO_READING } else { rng.bits() as u32 };
-        map.neighbours[place] = rng.bits();
+/// Anything past k and past c: writing ignores it.
+fn litter(rng: &mut Rng, map: &mut Map) {
+    for place in 0..PLACES {
+        let kept = if place < map.k.into() { map.classes.into() } else { 0 };
+        for count in &mut map.counts[place][kept..] {
+            *count = if rng.chance(50) { NO_READING } else { rng.bits() as u32 };
+        }
+        if place >= map.k.into() {
+            map.neighbours[place] = rng.bits();
+        }
     }
 }
 
-/// A map to hand over: accepted, or with rules broken one at a time or together; past k zero or anything.
+/// A map to hand over: accepted, or with rules broken one at a time or together; past k and past c zero or anything.
 pub fn handed_over(rng: &mut Rng) -> Map {
     let mut map = accepted(rng);
     if rng.chance(60) {
         break_rules(rng, &mut map);
     }
-    if rng.chance(30) {
+    if rng.chance(40) {
         litter(rng, &mut map);
     }
-    if rng.chance(5) {
-        map.k = rng.pick(&[0, 65, 66, 128, 255]);
+    // of bad counts, often both
+    let bad = rng.below(100);
+    if bad < 8 {
+        map.k = rng.pick(&NO_STATION_COUNTS);
+    }
+    if (4..12).contains(&bad) {
+        map.classes = rng.pick(&NO_CLASS_COUNTS);
     }
     map
 }

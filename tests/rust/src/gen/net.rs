@@ -1,13 +1,14 @@
 //! Nets of both kinds: reachable, in form but not reachable, with sums or missing numbers near their bounds, with anything
 //! where nothing may look, and out of form in one field.
 
-use super::aggregate::{self, BOUNDS};
+use super::aggregate::{self, BOUNDS, NO_CLASS_COUNTS};
 use super::mail::{self, SPARSITIES};
+use super::map::NO_STATION_COUNTS;
 use super::{call, map, station};
 use crate::model::demand::Record;
 use crate::model::mail::Mail;
 use crate::model::meet::Meet;
-use crate::model::net::Net;
+use crate::model::net::{Config, Net};
 use crate::model::station::Station;
 use crate::model::PLACES;
 use crate::rng::Rng;
@@ -18,9 +19,7 @@ const LONGEST_WAY: usize = 60;
 /// What a generator must know of a kind of net.
 pub trait Sample: Net {
     /// A net of given stations, with any messages in form.
-    fn scattered(rng: &mut Rng, k: u8, stations: [Station; PLACES]) -> Self;
-
-    fn set_k(&mut self, k: u8);
+    fn scattered(rng: &mut Rng, config: Config, stations: [Station; PLACES]) -> Self;
 
     /// Anything where the rules neither look nor write.
     fn litter(&mut self, rng: &mut Rng);
@@ -30,16 +29,12 @@ pub trait Sample: Net {
 }
 
 impl Sample for Meet {
-    fn scattered(_: &mut Rng, k: u8, stations: [Station; PLACES]) -> Meet {
-        Meet { k, stations }
-    }
-
-    fn set_k(&mut self, k: u8) {
-        self.k = k;
+    fn scattered(_: &mut Rng, config: Config, stations: [Station; PLACES]) -> Meet {
+        Meet { config, stations }
     }
 
     fn litter(&mut self, rng: &mut Rng) {
-        litter_stations(rng, self.k, &mut self.stations);
+        litter_stations(rng, self.config, &mut self.stations);
     }
 
     fn spoil_message(&mut self, _: &mut Rng) -> bool {
@@ -48,41 +43,39 @@ impl Sample for Meet {
 }
 
 impl Sample for Mail {
-    fn scattered(rng: &mut Rng, k: u8, stations: [Station; PLACES]) -> Mail {
+    fn scattered(rng: &mut Rng, config: Config, stations: [Station; PLACES]) -> Mail {
         let sparsity = rng.pick(&SPARSITIES);
-        let mut net = Mail { k, stations, outboxes: (0..PLACES).map(|_| mail::any(rng, sparsity)).collect() };
-        for (sender, outbox) in (0..k).zip(&mut net.outboxes) {
-            mail::bring_into_form(rng, outbox, sender, k);
+        let mut net = Mail { config, stations, outboxes: (0..PLACES).map(|_| mail::any(rng, sparsity)).collect() };
+        for (sender, outbox) in (0..config.k).zip(&mut net.outboxes) {
+            mail::bring_into_form(rng, outbox, sender, config);
         }
         net
     }
 
-    fn set_k(&mut self, k: u8) {
-        self.k = k;
-    }
-
     fn litter(&mut self, rng: &mut Rng) {
-        litter_stations(rng, self.k, &mut self.stations);
+        litter_stations(rng, self.config, &mut self.stations);
         for (sender, outbox) in (0..).zip(&mut self.outboxes) {
-            mail::litter(rng, outbox, sender, self.k);
+            mail::litter(rng, outbox, sender, self.config);
         }
     }
 
     fn spoil_message(&mut self, rng: &mut Rng) -> bool {
-        if self.k < 2 {
+        let Config { k, classes } = self.config;
+        if k < 2 {
             return false;
         }
-        let sender = rng.station(self.k);
-        let receiver = (sender + 1 + rng.station(self.k - 1)) % self.k;
-        mail::spoil(rng, &mut self.outboxes[usize::from(sender)], receiver);
+        let sender = rng.station(k);
+        let receiver = (sender + 1 + rng.station(k - 1)) % k;
+        mail::spoil(rng, &mut self.outboxes[usize::from(sender)], receiver, classes);
         true
     }
 }
 
-fn litter_stations(rng: &mut Rng, k: u8, stations: &mut [Station; PLACES]) {
-    for place in &mut stations[k.into()..] {
-        *place = station::any(rng);
-    }
+/// Past k, and past c in the places below.
+fn litter_stations(rng: &mut Rng, Config { k, classes }: Config, stations: &mut [Station; PLACES]) {
+    let (below, past) = stations.split_at_mut(k.into());
+    below.iter_mut().for_each(|station| aggregate::litter(rng, &mut station.held, classes));
+    past.iter_mut().for_each(|place| *place = station::any(rng));
 }
 
 /// A net as a caller may hand it over.
@@ -94,7 +87,7 @@ pub fn any<N: Sample>(rng: &mut Rng) -> N {
     if rng.chance(25) {
         near_bound(rng, &mut net);
     }
-    if rng.chance(30) {
+    if rng.chance(40) {
         net.litter(rng);
     }
     if rng.chance(20) {
@@ -106,9 +99,9 @@ pub fn any<N: Sample>(rng: &mut Rng) -> N {
 /// A net with anything in every place, for a call that fills it.
 pub fn junk<N: Sample>(rng: &mut Rng) -> N {
     let mut net: N = in_form(rng);
-    net.set_k(0);
+    net.config_mut().k = 0;
     net.litter(rng);
-    net.set_k(rng.byte());
+    *net.config_mut() = Config { k: rng.byte(), classes: rng.byte() };
     net
 }
 
@@ -123,37 +116,47 @@ fn reachable<N: Sample>(rng: &mut Rng) -> N {
 }
 
 fn in_form<N: Sample>(rng: &mut Rng) -> N {
-    let k = map::station_count(rng);
+    let config = Config { k: map::station_count(rng), classes: aggregate::class_count(rng) };
     let mut stations = [Station::default(); PLACES];
-    for own in 0..k {
-        stations[usize::from(own)] = station::in_form(rng, own, k);
+    for own in 0..config.k {
+        stations[usize::from(own)] = station::in_form(rng, own, config);
     }
-    N::scattered(rng, k, stations)
+    N::scattered(rng, config, stations)
+}
+
+/// A station of the net, with its number.
+fn station_of<'a, N: Sample>(rng: &mut Rng, net: &'a mut N) -> (u8, &'a mut Station) {
+    let own = rng.station(net.k());
+    (own, &mut net.stations_mut()[usize::from(own)])
 }
 
 /// Changes one field of one station within the form.
 fn nudge<N: Sample>(rng: &mut Rng, net: &mut N) {
-    let (own, k) = (rng.station(net.k()), net.k());
-    station::nudge(rng, &mut net.stations_mut()[usize::from(own)], own, k);
+    let config = net.config();
+    let (own, station) = station_of(rng, net);
+    station::nudge(rng, station, own, config);
 }
 
-/// Sums or missing numbers that an answer takes over their bound.
+/// Sums or missing numbers that an answer takes over their bound, often in one class alone.
 fn near_bound<N: Sample>(rng: &mut Rng, net: &mut N) {
-    let (k, bound) = (usize::from(net.k()), rng.pick(&BOUNDS));
-    for station in &mut net.stations_mut()[..k] {
+    let (Config { k, classes }, bound) = (net.config(), rng.pick(&BOUNDS));
+    let class = rng.chance(70).then(|| aggregate::class(rng, classes));
+    for station in &mut net.stations_mut()[..k.into()] {
         if rng.chance(70) {
-            station.held = aggregate::near(rng, bound);
+            station.held = aggregate::near(rng, classes, class, bound);
         }
     }
 }
 
-/// Takes one thing out of form: a field of a station, a message, or k.
+/// Takes one thing out of form: a field of a station, a message, k or c.
 fn spoil<N: Sample>(rng: &mut Rng, net: &mut N) {
-    let choice = rng.below(10);
+    let (config, choice) = (net.config(), rng.below(12));
     if choice == 0 {
-        net.set_k(rng.pick(&[0, 65, 66, 128, 255]));
-    } else if choice > 4 || !net.spoil_message(rng) {
-        let (own, k) = (rng.station(net.k()), net.k());
-        station::spoil(rng, &mut net.stations_mut()[usize::from(own)], own, k);
+        net.config_mut().k = rng.pick(&NO_STATION_COUNTS);
+    } else if choice < 3 {
+        net.config_mut().classes = rng.pick(&NO_CLASS_COUNTS);
+    } else if choice > 6 || !net.spoil_message(rng) {
+        let (own, station) = station_of(rng, net);
+        station::spoil(rng, station, own, config);
     }
 }

@@ -1,24 +1,30 @@
 //! Station records: in form, out of form in one field, and every field at its extremes.
 
-use super::aggregate::{self, MISSING, MISSING_BEYOND, SUMS, SUMS_BEYOND};
-use crate::model::aggregate::Aggregate;
+use super::aggregate::{self, NO_CLASS_COUNTS};
+use crate::model::aggregate::{in_use, is_class_count, Aggregate, Cell, SUM_LIMIT};
+use crate::model::net::Config;
 use crate::model::station::{Event, Process, Station, FINISHED};
-use crate::model::{set, MOST_STATIONS, ROOT};
+use crate::model::{set, CLASSES, MOST_STATIONS, ROOT};
 use crate::rng::Rng;
 
 /// Station numbers on both sides of their bound.
 const NUMBERS: [u8; 7] = [0, 1, 2, 63, 64, 65, 255];
 
 const OWN: [u8; 5] = [0, 1, 63, 64, 255];
+
+/// A class count, and the class whose numbers are at their extremes: the only one, the first or the last of several, or
+/// one past c; then numbers that are no class count.
+const CLASS: [(u8, usize); 8] = [(1, 0), (1, 1), (3, 0), (3, 2), (3, 7), (8, 7), (0, 0), (9, 7)];
+
 const SETS: [u64; 7] = [0, 1, 2, 4, 1 << 63, u64::MAX >> 1, u64::MAX];
 const PARENTS: [u8; 5] = [0, 1, 63, 64, 255];
-const WAITS: [u8; 6] = [0, 1, 63, 64, 65, 255];
+const WAITS: [u8; 5] = [0, 1, 64, 65, 255];
 const STATES: [u8; 5] = [0, 1, 2, 3, 255];
 
 /// A station in form at place `own` of `k`, seldom one that a wave reaches.
-pub fn in_form(rng: &mut Rng, own: u8, k: u8) -> Station {
+pub fn in_form(rng: &mut Rng, own: u8, Config { k, classes }: Config) -> Station {
     Station {
-        held: aggregate::in_form(rng),
+        held: aggregate::in_form(rng, classes),
         unstarted: set_in_form(rng, own, k),
         parent: parent_in_form(rng, own, k),
         waits: waits_in_form(rng),
@@ -56,11 +62,12 @@ fn waits_in_form(rng: &mut Rng) -> u8 {
 }
 
 /// Replaces one field by another in form.
-pub fn nudge(rng: &mut Rng, station: &mut Station, own: u8, k: u8) {
-    let other = in_form(rng, own, k);
+pub fn nudge(rng: &mut Rng, station: &mut Station, own: u8, config: Config) {
+    let other = in_form(rng, own, config);
+    let class = aggregate::class(rng, config.classes);
     match rng.below(6) {
-        0 => station.held.sum = other.held.sum,
-        1 => station.held.missing = other.held.missing,
+        0 => station.held.sums[class] = other.held.sums[class],
+        1 => station.held.missing[class] = other.held.missing[class],
         2 => station.unstarted = other.unstarted,
         3 => station.parent = other.parent,
         4 => station.waits = other.waits,
@@ -68,16 +75,18 @@ pub fn nudge(rng: &mut Rng, station: &mut Station, own: u8, k: u8) {
     }
 }
 
-/// Takes one field out of form.
-pub fn spoil(rng: &mut Rng, station: &mut Station, own: u8, k: u8) {
+/// Takes one field out of form; of what is held, one class.
+pub fn spoil(rng: &mut Rng, station: &mut Station, own: u8, Config { k, classes }: Config) {
     match rng.below(8) {
         0 if k < MOST_STATIONS => station.unstarted |= set::singleton(k + rng.station(MOST_STATIONS - k)),
         1 if own != ROOT => station.parent = own,
         0..=2 => station.unstarted |= set::singleton(own),
         3 => station.parent = rng.pick(&[k, MOST_STATIONS, 255]),
         4 => station.waits = rng.pick(&[65, 66, 128, 255]),
-        5 => station.held.sum = rng.pick(SUMS_BEYOND),
-        6 => station.held.missing = rng.pick(MISSING_BEYOND),
+        5 | 6 => {
+            let class = aggregate::class(rng, classes);
+            aggregate::spoil(rng, &mut station.held, class);
+        }
         _ => station.state = FINISHED + 1 + rng.station(253),
     }
 }
@@ -93,14 +102,16 @@ pub fn any(rng: &mut Rng) -> Station {
     }
 }
 
-/// A record for one station: mostly in form, else spoiled in one field, its own number among them.
+/// A record for one station: mostly in form, else spoiled in one field, its own number and its class count among them.
 pub fn process(rng: &mut Rng) -> Process {
     let own = if rng.chance(30) { ROOT } else { rng.station(MOST_STATIONS) };
-    let mut process = Process { own, station: in_form(rng, own, MOST_STATIONS) };
+    let config = Config { k: MOST_STATIONS, classes: aggregate::class_count(rng) };
+    let mut process = Process { own, classes: config.classes, station: in_form(rng, own, config) };
     match rng.below(20) {
-        0..=3 => spoil(rng, &mut process.station, own, MOST_STATIONS),
+        0..=3 => spoil(rng, &mut process.station, own, config),
         4 => process.own = rng.pick(&[64, 65, 255]),
-        5 => process = Process { own: rng.byte(), station: any(rng) },
+        5 => process.classes = rng.pick(&NO_CLASS_COUNTS),
+        6 => process = Process { own: rng.byte(), classes: rng.byte(), station: any(rng) },
         _ => {}
     }
     process
@@ -115,8 +126,22 @@ pub fn event(rng: &mut Rng, process: &Process) -> Event {
         2..=6 if !members.is_empty() => rng.pick(&members),
         _ => rng.station(MOST_STATIONS),
     };
-    let gathered = if rng.chance(30) { aggregate::extreme(rng) } else { aggregate::in_form(rng) };
+    let gathered = handed_over(rng, process.classes);
     events(other, gathered)[rng.index(5)]
+}
+
+/// What an answer brings: in range, out of it in one class, or anything.
+fn handed_over(rng: &mut Rng, classes: u8) -> Aggregate {
+    let choice = rng.below(10);
+    if choice == 0 || !is_class_count(classes) {
+        return aggregate::any(rng);
+    }
+    let mut gathered = aggregate::in_form(rng, classes);
+    if choice < 4 {
+        let class = aggregate::class(rng, classes);
+        aggregate::spoil(rng, &mut gathered, class);
+    }
+    gathered
 }
 
 /// All five events with the arguments that they take.
@@ -124,26 +149,48 @@ pub fn events(other: u8, gathered: Aggregate) -> [Event; 5] {
     [Event::TakeStart(other), Event::SendStart(other), Event::TakeAnswer(gathered), Event::SendAnswer, Event::Report]
 }
 
-/// Every event with its argument at each of its extremes.
+/// Every event with its argument at each of its extremes, in one class or another.
 pub fn extreme_events() -> Vec<Event> {
     let starts = NUMBERS.into_iter().flat_map(|other| [Event::TakeStart(other), Event::SendStart(other)]);
-    let gathered = SUMS.into_iter().flat_map(|sum| MISSING.map(|missing| Aggregate { sum, missing }));
+    let at = |class| (0..CELLS).map(move |mut number| with_cell(Aggregate::default(), class, cell(&mut number)));
+    let gathered = [0, 2, 7].into_iter().flat_map(at);
     starts.chain(gathered.map(Event::TakeAnswer)).chain([Event::SendAnswer, Event::Report]).collect()
+}
+
+/// The numbers of one class, on both sides of their bounds.
+const CELL_SUMS: [u64; 4] = [0, SUM_LIMIT - 1, SUM_LIMIT, u64::MAX];
+const CELL_MISSING: [u8; 4] = [0, 64, 65, 255];
+const CELLS: usize = CELL_SUMS.len() * CELL_MISSING.len();
+
+fn cell(number: &mut usize) -> Cell {
+    Cell { sum: digit(number, &CELL_SUMS), missing: digit(number, &CELL_MISSING) }
+}
+
+fn with_cell(mut held: Aggregate, class: usize, cell: Cell) -> Aggregate {
+    held.put(class, cell);
+    held
+}
+
+/// Something small in the classes in use, and past c what no class may hold.
+fn surroundings(classes: u8) -> Aggregate {
+    let mut held = Aggregate { sums: [u64::MAX; CLASSES], missing: [u8::MAX; CLASSES] };
+    in_use(classes.min(CLASSES as u8)).for_each(|class| held.put(class, Cell { sum: 7, missing: 1 }));
+    held
 }
 
 /// Every record with each field at one of its extremes: the record's number, in mixed radix, picks them.
 pub fn extremes() -> impl Iterator<Item = Process> {
-    let held = SUMS.len() * MISSING.len();
-    let count = held * SETS.len() * PARENTS.len() * WAITS.len() * STATES.len() * OWN.len();
+    let count = CLASS.len() * CELLS * SETS.len() * PARENTS.len() * WAITS.len() * STATES.len() * OWN.len();
     (0..count).map(|mut number| {
+        let (classes, class) = digit(&mut number, &CLASS);
         let station = Station {
-            held: Aggregate { sum: digit(&mut number, &SUMS), missing: digit(&mut number, &MISSING) },
+            held: with_cell(surroundings(classes), class, cell(&mut number)),
             unstarted: digit(&mut number, &SETS),
             parent: digit(&mut number, &PARENTS),
             waits: digit(&mut number, &WAITS),
             state: digit(&mut number, &STATES),
         };
-        Process { own: digit(&mut number, &OWN), station }
+        Process { own: digit(&mut number, &OWN), classes, station }
     })
 }
 

@@ -57,7 +57,7 @@ impl<'a> Record<'a> {
             assert_eq!(
                 net.outstanding(),
                 self.map.total(),
-                "before the report what is held adds up to the map's total"
+                "before the report what is held adds up to the map's total, class by class"
             );
         }
     }
@@ -78,7 +78,7 @@ impl<'a> Record<'a> {
         assert_eq!(reported, self.steps.len() == Record::whole(self.map), "all steps are made just when it was");
         if reported {
             assert_eq!(self.steps.last().map(|step| step.kind), Some(self.report), "the report is last");
-            assert_eq!(net.stations()[usize::from(ROOT)].held, self.map.total(), "what is reported is the total");
+            assert_eq!(net.stations()[usize::from(ROOT)].held, self.map.total(), "each class reports its own total");
             assert_eq!(messages + 1, Record::whole(self.map), "each link carried one message each way");
         }
     }

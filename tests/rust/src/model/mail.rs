@@ -3,9 +3,9 @@
 
 use super::aggregate::Aggregate;
 use super::map::Map;
-use super::net::{are_well_formed, fresh_stations, unfinished_total, Net, Step};
+use super::net::{are_well_formed, fresh_stations, unfinished_total, Config, Net, Step};
 use super::station::{Station, ACTIVE, ASLEEP, FINISHED};
-use super::{set, PLACES, ROOT};
+use super::{set, CLASSES, PLACES, ROOT};
 
 pub const DELIVERY: u8 = 1;
 pub const REPORT: u8 = 2;
@@ -26,14 +26,14 @@ pub struct Outbox {
     pub starts: u64,
     /// Those to which an answer waits, unless a start does.
     pub answers: u64,
-    /// The missing number that an answer to each receiver brings, in the lowest byte; the others are not looked at.
+    /// The missing numbers that an answer to each receiver brings: a byte for each class, that of class 0 the lowest.
     pub missing: [u64; PLACES],
-    /// The sum that it brings. Beside no answer neither word is looked at.
-    pub sums: [u64; PLACES],
+    /// The sums that it brings, by class. Beside no answer, and past c, none of this is looked at.
+    pub sums: [[u64; PLACES]; CLASSES],
 }
 
 impl Outbox {
-    pub const EMPTY: Outbox = Outbox { starts: 0, answers: 0, missing: [0; PLACES], sums: [0; PLACES] };
+    pub const EMPTY: Outbox = Outbox { starts: 0, answers: 0, missing: [0; PLACES], sums: [[0; PLACES]; CLASSES] };
 
     /// Where both bits are set the box holds the start.
     pub fn mailbox(&self, receiver: u8) -> Mailbox {
@@ -46,27 +46,35 @@ impl Outbox {
         }
     }
 
-    /// What the words for an answer say.
-    fn gathered(&self, receiver: u8) -> Aggregate {
+    /// What the words for an answer say, those past c among them.
+    pub fn gathered(&self, receiver: u8) -> Aggregate {
         let at = usize::from(receiver);
-        Aggregate { sum: self.sums[at], missing: self.missing[at] as u8 }
+        Aggregate { sums: self.sums.map(|sums| sums[at]), missing: self.missing[at].to_le_bytes() }
     }
 
-    /// Both bits go, and both words stay.
+    /// Writes what an answer brings into its words, all of them.
+    pub fn put(&mut self, receiver: u8, gathered: &Aggregate) {
+        let at = usize::from(receiver);
+        self.missing[at] = u64::from_le_bytes(gathered.missing);
+        for (sums, sum) in self.sums.iter_mut().zip(gathered.sums) {
+            sums[at] = sum;
+        }
+    }
+
+    /// Both bits go, and the words stay.
     fn empty(&mut self, receiver: u8) {
         self.starts = set::without(self.starts, receiver);
         self.answers = set::without(self.answers, receiver);
     }
 
-    /// A post replaces what the box held; a start leaves both words, an answer fills them whole.
+    /// A post replaces what the box held; a start leaves the words, an answer fills them whole.
     pub fn post(&mut self, receiver: u8, message: Message) {
         self.empty(receiver);
         match message {
             Message::Start => self.starts |= set::singleton(receiver),
-            Message::Answer(Aggregate { sum, missing }) => {
+            Message::Answer(gathered) => {
                 self.answers |= set::singleton(receiver);
-                self.missing[usize::from(receiver)] = missing.into();
-                self.sums[usize::from(receiver)] = sum;
+                self.put(receiver, &gathered);
             }
         }
     }
@@ -78,7 +86,7 @@ impl Outbox {
 
 #[derive(Clone, PartialEq, Eq, Debug)]
 pub struct Mail {
-    pub k: u8,
+    pub config: Config,
     /// A station's set holds its neighbours and stays.
     pub stations: [Station; PLACES],
     /// By sender. Boxes past k, and of a station to itself, are neither looked at nor touched.
@@ -92,8 +100,9 @@ impl Mail {
 
     /// What the answers bring that wait in the boxes that exist: of ordered pairs of different stations below k.
     fn answers(&self) -> impl Iterator<Item = Aggregate> + '_ {
-        (0..self.k).zip(&self.outboxes).flat_map(|(sender, outbox)| {
-            let receivers = (0..self.k).filter(move |&receiver| receiver != sender);
+        let stations = 0..self.config.k;
+        stations.clone().zip(&self.outboxes).flat_map(move |(sender, outbox)| {
+            let receivers = stations.clone().filter(move |&receiver| receiver != sender);
             receivers.filter_map(|receiver| match outbox.mailbox(receiver) {
                 Some(Message::Answer(gathered)) => Some(gathered),
                 _ => None,
@@ -106,7 +115,7 @@ impl Mail {
         self.outbox(sender).empty(receiver);
         let station = &mut self.stations[usize::from(receiver)];
         match message {
-            Some(Message::Answer(gathered)) => station.take_answer(gathered),
+            Some(Message::Answer(gathered)) => station.take_answer(&gathered, self.config.classes),
             _ if station.state == ASLEEP => {
                 station.wake(sender);
                 let others = set::without(station.unstarted, sender);
@@ -122,7 +131,7 @@ impl Mail {
     fn answer_if_done(&mut self, receiver: u8) {
         let station = &mut self.stations[usize::from(receiver)];
         if receiver != ROOT && station.waits == 0 {
-            let answer = station.finish();
+            let answer = station.finish(self.config.classes);
             self.outbox(receiver).post(answer.parent, Message::Answer(answer.gathered));
         }
     }
@@ -132,13 +141,18 @@ impl Net for Mail {
     const REPORT: u8 = REPORT;
 
     fn set_up(map: &Map) -> Mail {
-        let mut net = Mail { k: map.k, stations: fresh_stations(map), outboxes: vec![Outbox::EMPTY; PLACES] };
+        let outboxes = vec![Outbox::EMPTY; PLACES];
+        let mut net = Mail { config: Config::of(map), stations: fresh_stations(map), outboxes };
         net.outbox(ROOT).post_starts(map.neighbours[usize::from(ROOT)]);
         net
     }
 
-    fn k(&self) -> u8 {
-        self.k
+    fn config(&self) -> Config {
+        self.config
+    }
+
+    fn config_mut(&mut self) -> &mut Config {
+        &mut self.config
     }
 
     fn stations(&self) -> &[Station; PLACES] {
@@ -154,7 +168,8 @@ impl Net for Mail {
     }
 
     fn is_well_formed(&self) -> bool {
-        are_well_formed(self.k, &self.stations) && self.answers().all(Aggregate::is_bounded)
+        are_well_formed(self.config, &self.stations)
+            && self.answers().all(|gathered| gathered.is_bounded(self.config.classes))
     }
 
     fn is_allowed(&self, step: Step) -> bool {
@@ -172,7 +187,7 @@ impl Net for Mail {
 
     fn make(&mut self, step: Step) {
         if step.kind == REPORT {
-            self.stations[usize::from(ROOT)].finish();
+            self.stations[usize::from(ROOT)].finish(self.config.classes);
         } else {
             self.deliver(step.sender, step.receiver);
         }
@@ -180,6 +195,8 @@ impl Net for Mail {
 
     /// What stations not finished hold, and what is under way.
     fn outstanding(&self) -> Aggregate {
-        self.answers().fold(unfinished_total(self.k, &self.stations), Aggregate::join)
+        let mut total = unfinished_total(self.config, &self.stations);
+        self.answers().for_each(|gathered| total.join(&gathered, self.config.classes));
+        total
     }
 }

@@ -1,23 +1,25 @@
-//! The line map (document 01): its stored form, reading, acceptance and writing.
+//! The line map (document 01, and document 02, request 2): its stored form, reading, acceptance and writing.
 
-use super::aggregate::{Aggregate, NO_READING};
+use super::aggregate::{in_use, is_class_count, Aggregate, Cell, NO_READING};
 use super::refusal::{Cause, Refusal};
-use super::{set, MOST_STATIONS, PLACES, ROOT};
+use super::{set, CLASSES, MOST_CLASSES, MOST_STATIONS, PLACES, ROOT};
 
-const ROW: usize = 12;
 pub const TRAILER: usize = 16;
 
 #[derive(Clone, Copy, PartialEq, Eq, Debug)]
 pub struct Map {
     pub k: u8,
+    /// c: how many counts a station has.
+    pub classes: u8,
     pub lot: u32,
-    pub counts: [u32; PLACES],
+    /// By station, then by class.
+    pub counts: [[u32; CLASSES]; PLACES],
     pub neighbours: [u64; PLACES],
 }
 
 impl Map {
-    pub fn empty(k: u8, lot: u32) -> Map {
-        Map { k, lot, counts: [0; PLACES], neighbours: [0; PLACES] }
+    pub fn empty(k: u8, classes: u8, lot: u32) -> Map {
+        Map { k, classes, lot, counts: [[0; CLASSES]; PLACES], neighbours: [0; PLACES] }
     }
 
     /// The places below k; the others say nothing.
@@ -25,42 +27,68 @@ impl Map {
         &self.neighbours[..self.k.into()]
     }
 
-    /// Zero past k, as reading gives it.
-    pub fn trimmed(mut self) -> Map {
-        self.counts[self.k.into()..].fill(0);
-        self.neighbours[self.k.into()..].fill(0);
-        self
+    /// The counts of a station in the classes in use.
+    pub fn counts_of(&self, station: usize) -> &[u32] {
+        &self.counts[station][in_use(self.classes)]
     }
 
-    /// What the desk is to report (document 02, request 1): "the sum over heads with a reading, together with how many had
-    /// none".
+    /// Zero past k and past c, as reading gives it.
+    pub fn trimmed(&self) -> Map {
+        let mut map = Map::empty(self.k, self.classes, self.lot);
+        for i in 0..usize::from(self.k) {
+            map.counts[i][in_use(self.classes)].copy_from_slice(self.counts_of(i));
+            map.neighbours[i] = self.neighbours[i];
+        }
+        map
+    }
+
+    /// What the desk is to report (document 02, requests 1 and 2): "each class reports its own total".
     pub fn total(&self) -> Aggregate {
-        let (missing, readings): (Vec<u32>, Vec<u32>) =
-            self.counts[..self.k.into()].iter().partition(|&&count| count == NO_READING);
-        Aggregate { sum: readings.into_iter().map(u64::from).sum(), missing: missing.len() as u8 }
+        Aggregate::of(in_use(self.classes).map(|class| self.total_of(class)))
+    }
+
+    /// "The sum over heads with a reading, together with how many had none".
+    fn total_of(&self, class: usize) -> Cell {
+        let counts = self.counts[..self.k.into()].iter().map(|counts| counts[class]);
+        let (missing, readings): (Vec<u32>, Vec<u32>) = counts.partition(|&count| count == NO_READING);
+        Cell { sum: readings.into_iter().map(u64::from).sum(), missing: missing.len() as u8 }
     }
 
     /// m of an accepted map: each link is named from both its ends.
     pub fn links(&self) -> u32 {
         self.sets().iter().map(|set| set.count_ones()).sum::<u32>() / 2
     }
+
+    /// Bytes of the stored form.
+    pub fn stored_length(&self) -> usize {
+        stored_length(self.k, self.classes)
+    }
 }
 
-/// Bytes of a map's stored form.
-pub fn stored_length(k: u8) -> usize {
-    ROW * usize::from(k) + TRAILER
+/// "A row may hold c counts, 1 to 8, before its set, so the row length is 8 + 4 × c."
+pub fn row_length(classes: u8) -> usize {
+    8 + 4 * usize::from(classes)
 }
 
-/// The stored form: rows of count and set, then the trailer, whose last word makes all words add to zero.
+/// "The distance back is the row length times k."
+fn distance(k: u8, classes: u8) -> usize {
+    row_length(classes) * usize::from(k)
+}
+
+fn stored_length(k: u8, classes: u8) -> usize {
+    distance(k, classes) + TRAILER
+}
+
+/// The stored form: rows of counts and set, then the trailer, whose last word makes all words add to zero.
 pub fn stored(map: &Map) -> Vec<u8> {
-    let mut bytes = Vec::with_capacity(stored_length(map.k));
+    let mut bytes = Vec::with_capacity(map.stored_length());
     for i in 0..usize::from(map.k) {
-        bytes.extend(map.counts[i].to_le_bytes());
+        bytes.extend(map.counts_of(i).iter().flat_map(|count| count.to_le_bytes()));
         bytes.extend(map.neighbours[i].to_le_bytes());
     }
     bytes.extend(u16::from(map.k).to_le_bytes());
-    bytes.extend((ROW as u16).to_le_bytes());
-    bytes.extend((ROW as u32 * u32::from(map.k)).to_le_bytes());
+    bytes.extend((row_length(map.classes) as u16).to_le_bytes());
+    bytes.extend((distance(map.k, map.classes) as u32).to_le_bytes());
     bytes.extend(map.lot.to_le_bytes());
     let check = word_sum(&bytes).wrapping_neg();
     bytes.extend(check.to_le_bytes());
@@ -74,43 +102,48 @@ pub fn word_sum(bytes: &[u8]) -> u32 {
 
 /// Reads the map that ends with the lent bytes. Refusals 1 to 10, in order.
 pub fn read(bytes: &[u8]) -> Result<Map, Refusal> {
-    let k = trailer_stations(bytes)?;
-    let own = &bytes[bytes.len() - stored_length(k)..];
+    let (k, classes) = trailer_numbers(bytes)?;
+    let own = &bytes[bytes.len() - stored_length(k, classes)..];
     if word_sum(own) != 0 {
         return Err(Cause::CheckWord.alone());
     }
-    let map = unpack(k, own);
+    let map = unpack(k, classes, own);
     accept(&map)?;
     Ok(map)
 }
 
-/// The trailer's k. Refusals 1 to 5.
-fn trailer_stations(bytes: &[u8]) -> Result<u8, Refusal> {
+/// The trailer's k, and c by its row length. Refusals 1 to 5.
+fn trailer_numbers(bytes: &[u8]) -> Result<(u8, u8), Refusal> {
     let Some(start) = bytes.len().checked_sub(TRAILER) else {
         return Err(Cause::UnderTrailer.alone());
     };
     let trailer = &bytes[start..];
-    if usize::from(le16(trailer, 2)) != ROW {
-        return Err(Cause::RowLength.alone());
-    }
+    let classes = classes_of_row(le16(trailer, 2)).ok_or(Cause::Classes.alone())?;
     let k = u8::try_from(le16(trailer, 0)).ok().filter(|&k| is_station_count(k)).ok_or(Cause::StationCount.alone())?;
-    let rows = ROW * usize::from(k);
-    if le32(trailer, 4) as usize != rows {
+    if le32(trailer, 4) as usize != distance(k, classes) {
         return Err(Cause::Distance.alone());
     }
-    if rows > start {
+    if distance(k, classes) > start {
         return Err(Cause::RowsMissing.alone());
     }
-    Ok(k)
+    Ok((k, classes))
 }
 
-/// The map in its own bytes, zero past k.
-fn unpack(k: u8, own: &[u8]) -> Map {
+/// "Row length not one of 12, 16, .. 40" is none.
+fn classes_of_row(length: u16) -> Option<u8> {
+    (1..=MOST_CLASSES).find(|&classes| row_length(classes) == usize::from(length))
+}
+
+/// The map in its own bytes, zero past k and past c.
+fn unpack(k: u8, classes: u8, own: &[u8]) -> Map {
     let (rows, trailer) = own.split_at(own.len() - TRAILER);
-    let mut map = Map::empty(k, le32(trailer, 8));
-    for (i, row) in rows.chunks_exact(ROW).enumerate() {
-        map.counts[i] = le32(row, 0);
-        map.neighbours[i] = u64::from(le32(row, 4)) | u64::from(le32(row, 8)) << 32;
+    let mut map = Map::empty(k, classes, le32(trailer, 8));
+    for (i, row) in rows.chunks_exact(row_length(classes)).enumerate() {
+        let (counts, set) = row.split_at(row.len() - 8);
+        for (class, count) in counts.chunks_exact(4).enumerate() {
+            map.counts[i][class] = le32(count, 0);
+        }
+        map.neighbours[i] = u64::from(le32(set, 0)) | u64::from(le32(set, 4)) << 32;
     }
     map
 }
@@ -127,8 +160,11 @@ fn is_station_count(k: u8) -> bool {
     (1..=MOST_STATIONS).contains(&k)
 }
 
-/// A map handed over goes 3, 7 to 10; each rule is tested over all stations before the next.
+/// A map handed over goes 2, 3, 7 to 10; each rule is tested over all stations before the next.
 pub fn accept(map: &Map) -> Result<(), Refusal> {
+    if !is_class_count(map.classes) {
+        return Err(Cause::Classes.alone());
+    }
     if !is_station_count(map.k) {
         return Err(Cause::StationCount.alone());
     }
@@ -160,11 +196,11 @@ fn joined_to_root(sets: &[u64]) -> u64 {
     }
 }
 
-/// Writes an accepted map at the first lent byte; the bytes past it stay. Gives the number of bytes filled. Refusals 3, 7
-/// to 10, 15.
+/// Writes an accepted map at the first lent byte; the bytes past it stay. Gives the number of bytes filled. Refusals 2, 3,
+/// 7 to 10, 15.
 pub fn write(map: &Map, buffer: &mut [u8]) -> Result<u32, Refusal> {
     accept(map)?;
-    let length = stored_length(map.k);
+    let length = map.stored_length();
     match buffer.get_mut(..length) {
         Some(filled) => {
             filled.copy_from_slice(&stored(map));

@@ -2,7 +2,7 @@
 
 use super::aggregate::Aggregate;
 use super::map::Map;
-use super::net::{are_well_formed, fresh_stations, unfinished_total, Net, Step};
+use super::net::{are_well_formed, fresh_stations, unfinished_total, Config, Net, Step};
 use super::station::{Station, ACTIVE, ASLEEP};
 use super::{set, PLACES, ROOT};
 
@@ -13,7 +13,7 @@ pub const REPORT: u8 = 4;
 
 #[derive(Clone, PartialEq, Eq, Debug)]
 pub struct Meet {
-    pub k: u8,
+    pub config: Config,
     pub stations: [Station; PLACES],
 }
 
@@ -21,11 +21,15 @@ impl Net for Meet {
     const REPORT: u8 = REPORT;
 
     fn set_up(map: &Map) -> Meet {
-        Meet { k: map.k, stations: fresh_stations(map) }
+        Meet { config: Config::of(map), stations: fresh_stations(map) }
     }
 
-    fn k(&self) -> u8 {
-        self.k
+    fn config(&self) -> Config {
+        self.config
+    }
+
+    fn config_mut(&mut self) -> &mut Config {
+        &mut self.config
     }
 
     fn stations(&self) -> &[Station; PLACES] {
@@ -37,7 +41,7 @@ impl Net for Meet {
     }
 
     fn is_well_formed(&self) -> bool {
-        are_well_formed(self.k, &self.stations)
+        are_well_formed(self.config, &self.stations)
     }
 
     fn is_allowed(&self, step: Step) -> bool {
@@ -55,22 +59,23 @@ impl Net for Meet {
 
     fn make(&mut self, step: Step) {
         let (sender, receiver) = (usize::from(step.sender), usize::from(step.receiver));
+        let classes = self.config.classes;
         match step.kind {
             WAKE | PASS => {
                 self.stations[sender].send_start(step.receiver);
                 self.stations[receiver].take_start(step.sender);
             }
             ANSWER => {
-                let answer = self.stations[sender].finish();
-                self.stations[receiver].take_answer(answer.gathered);
+                let answer = self.stations[sender].finish(classes);
+                self.stations[receiver].take_answer(&answer.gathered, classes);
             }
             _ => {
-                self.stations[sender].finish();
+                self.stations[sender].finish(classes);
             }
         }
     }
 
     fn outstanding(&self) -> Aggregate {
-        unfinished_total(self.k, &self.stations)
+        unfinished_total(self.config, &self.stations)
     }
 }

@@ -17,5 +17,10 @@ pub const PLACES: usize = 64;
 /// For one station 64 stands for k (document 01, "Causes and numbers").
 pub const MOST_STATIONS: u8 = PLACES as u8;
 
+/// Places for classes: "c counts, 1 to 8" (document 02, request 2).
+pub const CLASSES: usize = 8;
+
+pub const MOST_CLASSES: u8 = CLASSES as u8;
+
 /// Station 0, the desk of document 01.
 pub const ROOT: u8 = 0;

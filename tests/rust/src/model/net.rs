@@ -1,12 +1,25 @@
 //! What both kinds of net share: fresh stations, form, the listing of allowed steps, steps, draws and runs.
 
-use super::aggregate::Aggregate;
+use super::aggregate::{Aggregate, Cell};
 use super::mail::Outbox;
 use super::map::{self, Map};
 use super::refusal::{admit, Cause, Refusal};
 use super::station::{Station, ACTIVE, ASLEEP, FINISHED};
 use super::{set, MOST_STATIONS, PLACES, ROOT};
 use std::fmt::Debug;
+
+/// What a net is opened with: the numbers of its stations and of its classes.
+#[derive(Clone, Copy, PartialEq, Eq, Debug)]
+pub struct Config {
+    pub k: u8,
+    pub classes: u8,
+}
+
+impl Config {
+    pub fn of(map: &Map) -> Config {
+        Config { k: map.k, classes: map.classes }
+    }
+}
 
 #[derive(Clone, Copy, PartialEq, Eq, PartialOrd, Ord, Debug)]
 pub struct Step {
@@ -30,7 +43,13 @@ pub trait Net: Clone + PartialEq + Debug {
     /// The fresh net of an accepted map.
     fn set_up(map: &Map) -> Self;
 
-    fn k(&self) -> u8;
+    fn config(&self) -> Config;
+
+    fn config_mut(&mut self) -> &mut Config;
+
+    fn k(&self) -> u8 {
+        self.config().k
+    }
 
     fn stations(&self) -> &[Station; PLACES];
 
@@ -41,7 +60,7 @@ pub trait Net: Clone + PartialEq + Debug {
         &[]
     }
 
-    /// Form (11); it looks at the places below k only.
+    /// Form (11); it looks at the places below k, and of each at the classes below c, only.
     fn is_well_formed(&self) -> bool;
 
     /// Whether a step in range is allowed in a net in form.
@@ -53,7 +72,7 @@ pub trait Net: Clone + PartialEq + Debug {
     /// What is not yet handed on: it adds up to the map's total before the report.
     fn outstanding(&self) -> Aggregate;
 
-    /// The fresh net of a map handed over: refusals 3, 7 to 10.
+    /// The fresh net of a map handed over: refusals 2, 3, 7 to 10.
     fn fresh(map: &Map) -> Result<Self, Refusal> {
         map::accept(map)?;
         Ok(Self::set_up(map))
@@ -112,25 +131,28 @@ pub trait Net: Clone + PartialEq + Debug {
     }
 }
 
-/// Stations fresh for an accepted map; past k they are zero and asleep.
+/// Stations fresh for an accepted map; past k they are zero and asleep, and past c zero.
 pub fn fresh_stations(map: &Map) -> [Station; PLACES] {
     let mut stations = [Station::default(); PLACES];
-    for ((station, &count), &neighbours) in stations.iter_mut().zip(&map.counts).zip(map.sets()) {
+    for (i, &neighbours) in map.sets().iter().enumerate() {
+        let held = Aggregate::of(map.counts_of(i).iter().copied().map(Cell::of));
         let waits = set::size(neighbours);
-        let held = Aggregate::of(count);
-        *station = Station { held, unstarted: neighbours, parent: ROOT, waits, state: ASLEEP };
+        stations[i] = Station { held, unstarted: neighbours, parent: ROOT, waits, state: ASLEEP };
     }
     stations[usize::from(ROOT)].state = ACTIVE;
     stations
 }
 
-/// Form of the stations below k, and of k.
-pub fn are_well_formed(k: u8, stations: &[Station; PLACES]) -> bool {
-    (1..=MOST_STATIONS).contains(&k) && (0..k).zip(stations).all(|(own, station)| station.is_well_formed(own, k))
+/// Form of the stations below k, of k and of c.
+pub fn are_well_formed(config: Config, stations: &[Station; PLACES]) -> bool {
+    (1..=MOST_STATIONS).contains(&config.k)
+        && (0..config.k).zip(stations).all(|(own, station)| station.is_well_formed(own, config))
 }
 
 /// What the stations below k that are not finished hold.
-pub fn unfinished_total(k: u8, stations: &[Station; PLACES]) -> Aggregate {
-    let unfinished = stations[..k.into()].iter().filter(|station| station.state != FINISHED);
-    unfinished.map(|station| station.held).fold(Aggregate::default(), Aggregate::join)
+pub fn unfinished_total(config: Config, stations: &[Station; PLACES]) -> Aggregate {
+    let unfinished = stations[..config.k.into()].iter().filter(|station| station.state != FINISHED);
+    let mut total = Aggregate::default();
+    unfinished.for_each(|station| total.join(&station.held, config.classes));
+    total
 }

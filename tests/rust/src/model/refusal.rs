@@ -4,7 +4,7 @@
 #[repr(u8)]
 pub enum Cause {
     UnderTrailer = 1,
-    RowLength = 2,
+    Classes = 2,
     StationCount = 3,
     Distance = 4,
     RowsMissing = 5,

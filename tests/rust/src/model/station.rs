@@ -1,6 +1,7 @@
 //! One station (document 01): the process of document 001, Definition 3.1, with its refusals 11, 12, 13.
 
-use super::aggregate::Aggregate;
+use super::aggregate::{is_class_count, Aggregate};
+use super::net::Config;
 use super::refusal::{admit, Refusal};
 use super::{set, MOST_STATIONS, ROOT};
 
@@ -11,7 +12,7 @@ pub const FINISHED: u8 = 2;
 /// What a net holds of a station: all of it but its own number.
 #[derive(Clone, Copy, PartialEq, Eq, Debug, Default)]
 pub struct Station {
-    /// What it has gathered: sum and missing number.
+    /// What it has gathered: a sum and a missing number for each class.
     pub held: Aggregate,
     /// The set still to be started; in a mail net, the neighbours.
     pub unstarted: u64,
@@ -27,14 +28,15 @@ fn less_one(waits: u8) -> u8 {
 
 /// The events of Definition 3.1 without their guards.
 impl Station {
-    /// Form (11) at place `own` of `k`.
-    pub fn is_well_formed(&self, own: u8, k: u8) -> bool {
-        own < k
+    /// Form (11) at place `own` of `k`, and of c; of what it holds, only the classes in use are looked at.
+    pub fn is_well_formed(&self, own: u8, Config { k, classes }: Config) -> bool {
+        is_class_count(classes)
+            && own < k
             && self.state <= FINISHED
             && self.parent < k
             && set::is_within(self.unstarted, k)
             && self.waits <= 64
-            && self.held.is_bounded()
+            && self.held.is_bounded(classes)
             && !set::contains(self.unstarted, own)
             && (own == ROOT || self.parent != own)
     }
@@ -67,8 +69,8 @@ impl Station {
     }
 
     /// Line 3.
-    pub fn take_answer(&mut self, gathered: Aggregate) {
-        self.held = self.held.join(gathered);
+    pub fn take_answer(&mut self, gathered: &Aggregate, classes: u8) {
+        self.held.join(gathered, classes);
         self.wait_less();
     }
 
@@ -77,9 +79,9 @@ impl Station {
     }
 
     /// Lines 5 and 6.
-    pub fn finish(&mut self) -> Answer {
+    pub fn finish(&mut self, classes: u8) -> Answer {
         self.state = FINISHED;
-        Answer { parent: self.parent, gathered: self.held }
+        Answer { parent: self.parent, gathered: self.held.given(classes) }
     }
 }
 
@@ -94,6 +96,7 @@ pub struct Answer {
 #[derive(Clone, Copy, PartialEq, Eq, Debug)]
 pub struct Process {
     pub own: u8,
+    pub classes: u8,
     pub station: Station,
 }
 
@@ -108,20 +111,29 @@ pub enum Event {
 
 impl Process {
     pub fn is_well_formed(&self) -> bool {
-        self.station.is_well_formed(self.own, MOST_STATIONS)
+        self.station.is_well_formed(self.own, Config { k: MOST_STATIONS, classes: self.classes })
     }
 
     /// One event; it gives an answer where the station sends one or reports.
     pub fn event(&mut self, event: Event) -> Result<Option<Answer>, Refusal> {
-        admit(self.is_well_formed(), || is_in_range(event), || self.is_allowed(event))?;
-        let station = &mut self.station;
+        admit(self.is_well_formed(), || self.is_in_range(event), || self.is_allowed(event))?;
+        let Process { classes, ref mut station, .. } = *self;
         match event {
             Event::TakeStart(from) => station.take_start(from),
             Event::SendStart(to) => station.send_start(to),
-            Event::TakeAnswer(gathered) => station.take_answer(gathered),
-            Event::SendAnswer | Event::Report => return Ok(Some(station.finish())),
+            Event::TakeAnswer(gathered) => station.take_answer(&gathered, classes),
+            Event::SendAnswer | Event::Report => return Ok(Some(station.finish(classes))),
         }
         Ok(None)
+    }
+
+    /// Number 12: a station number not below 64, or, in a class in use, a sum of 2^62 or more or a missing number above 64.
+    fn is_in_range(&self, event: Event) -> bool {
+        match event {
+            Event::TakeStart(other) | Event::SendStart(other) => other < MOST_STATIONS,
+            Event::TakeAnswer(gathered) => gathered.is_bounded(self.classes),
+            Event::SendAnswer | Event::Report => true,
+        }
     }
 
     /// The guards of Definition 3.1.
@@ -134,14 +146,5 @@ impl Process {
             Event::SendAnswer => self.own != ROOT && station.is_ready(),
             Event::Report => self.own == ROOT && station.is_ready(),
         }
-    }
-}
-
-/// Number 12: a station number not below 64, a sum of 2^62 or more, or a missing number above 64.
-fn is_in_range(event: Event) -> bool {
-    match event {
-        Event::TakeStart(other) | Event::SendStart(other) => other < MOST_STATIONS,
-        Event::TakeAnswer(gathered) => gathered.is_bounded(),
-        Event::SendAnswer | Event::Report => true,
     }
 }

@@ -1,7 +1,7 @@
 //! The program (document 01): draws and a map on standard input, a line for each step of stations that meet on standard
 //! output.
 
-use super::aggregate::Aggregate;
+use super::aggregate::{Aggregate, Cell};
 use super::map::{self, Map};
 use super::meet::{Meet, ANSWER, PASS, WAKE};
 use super::net::{Net, Step};
@@ -24,7 +24,7 @@ fn parse(input: &[u8]) -> Result<(Vec<u16>, Map), Refusal> {
         return Err(Cause::InputTooLong.alone());
     }
     let map = map::read(input)?;
-    let before = &input[..input.len() - map::stored_length(map.k)];
+    let before = &input[..input.len() - map.stored_length()];
     let pairs = before.chunks_exact(2);
     if !pairs.remainder().is_empty() {
         return Err(Cause::OddDraws.alone());
@@ -40,18 +40,23 @@ fn narrate(draws: &[u16], map: &Map) -> String {
     let mut steps = 0;
     for &draw in draws {
         let Ok(step) = net.draw(draw) else { break };
-        text += &line(step, net.stations[usize::from(step.sender)].held);
+        text += &line(step, &shown(&net.stations[usize::from(step.sender)].held, map.classes));
         steps += 1;
     }
     text + &format!("lot {} steps {steps} links {}\n", map.lot, map.links())
 }
 
-/// What the sender holds, sum and missing number, is what it answers or reports.
-fn line(Step { kind, sender, receiver }: Step, Aggregate { sum, missing }: Aggregate) -> String {
+/// "Lines show sum and missing number for each class in turn."
+fn shown(gathered: &Aggregate, classes: u8) -> String {
+    gathered.cells(classes).map(|Cell { sum, missing }| format!(" {sum} {missing}")).collect()
+}
+
+/// What the sender holds is what it answers or reports.
+fn line(Step { kind, sender, receiver }: Step, held: &str) -> String {
     match kind {
         WAKE => format!("wake {sender} {receiver}\n"),
         PASS => format!("pass {sender} {receiver}\n"),
-        ANSWER => format!("answer {sender} {receiver} {sum} {missing}\n"),
-        _ => format!("report {sender} {sum} {missing}\n"),
+        ANSWER => format!("answer {sender} {receiver}{held}\n"),
+        _ => format!("report {sender}{held}\n"),
     }
 }

@@ -1,10 +1,16 @@
 //! A net of the model with a fault in its rules: whatever the fault does not name goes as in the model.
 
+use conformance::calls::{Model, NetCalls};
+use conformance::compare::net::list;
+use conformance::gen::map::accepted;
+use conformance::gen::net::Sample;
 use conformance::model::aggregate::Aggregate;
 use conformance::model::map::Map;
-use conformance::model::net::{Net, Step};
+use conformance::model::net::{Config, Net, Run, Step};
+use conformance::model::refusal::Refusal;
 use conformance::model::station::Station;
 use conformance::model::PLACES;
+use conformance::rng::for_cases;
 use std::fmt::Debug;
 
 /// The rules that a fault may bend. The default fault bends none.
@@ -18,6 +24,10 @@ pub trait Fault<N: Net>: Copy + Default + PartialEq + Debug {
     }
 
     fn make(self, net: &mut N, step: Step);
+
+    fn fresh(self, map: &Map, net: &mut N) -> Result<(), Refusal> {
+        Model.fresh(map, net)
+    }
 
     /// A call on the net under this fault.
     fn on<R>(self, net: &mut N, call: impl FnOnce(&mut Faulty<N, Self>) -> R) -> R {
@@ -41,8 +51,12 @@ impl<N: Net, F: Fault<N>> Net for Faulty<N, F> {
         Faulty { net: N::set_up(map), fault: F::default() }
     }
 
-    fn k(&self) -> u8 {
-        self.net.k()
+    fn config(&self) -> Config {
+        self.net.config()
+    }
+
+    fn config_mut(&mut self) -> &mut Config {
+        self.net.config_mut()
     }
 
     fn stations(&self) -> &[Station; PLACES] {
@@ -68,4 +82,35 @@ impl<N: Net, F: Fault<N>> Net for Faulty<N, F> {
     fn outstanding(&self) -> Aggregate {
         self.net.outstanding()
     }
+}
+
+/// The calls on a net under a fault in its rules.
+pub struct Under<F>(pub F);
+
+impl<N: Net, F: Fault<N>> NetCalls<N> for Under<F> {
+    fn fresh(&self, map: &Map, net: &mut N) -> Result<(), Refusal> {
+        self.0.fresh(map, net)
+    }
+
+    fn step(&self, net: &mut N, step: Step) -> Result<Step, Refusal> {
+        self.0.on(net, |faulty| faulty.step(step))
+    }
+
+    fn draw(&self, net: &mut N, draw: u16) -> Result<Step, Refusal> {
+        self.0.on(net, |faulty| faulty.draw(draw))
+    }
+
+    fn run(&self, net: &mut N, draws: &[u16]) -> Run {
+        self.0.on(net, |faulty| faulty.run(draws))
+    }
+}
+
+/// Demand 3 and the run's formula, from calls and answers alone.
+pub fn demand_3<N: Sample>(subject: &impl NetCalls<N>, lists: u64) {
+    for_cases(lists, |rng| {
+        let map = accepted(rng);
+        let mut net = N::set_up(&map);
+        subject.fresh(&map, &mut net).expect("the map is accepted");
+        list(subject, rng, &map, net, |net, call| subject.call(net, call));
+    });
 }

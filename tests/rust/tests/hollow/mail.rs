@@ -1,43 +1,43 @@
-//! Stations with mail: what may go wrong with boxes that are read from words and written to words.
+//! Stations with mail: what may go wrong with boxes that are read from words and written to words, class by class.
 
-use super::faulty::{self, Fault as _};
+use super::faulty::{self, Under};
 use super::is_caught;
 use conformance::calls::{Model, NetCalls};
 use conformance::compare::net::{freshness, hostile};
 use conformance::model::aggregate::{MOST_MISSING, SUM_LIMIT};
 use conformance::model::mail::{Mail, Message, Outbox, DELIVERY};
 use conformance::model::map::Map;
-use conformance::model::net::{Net, Run, Step};
+use conformance::model::net::{Config, Net, Step};
 use conformance::model::refusal::Refusal;
-use conformance::model::station::ASLEEP;
-use conformance::model::{set, PLACES};
+use conformance::model::station::{ASLEEP, FINISHED};
+use conformance::model::{set, CLASSES, MOST_CLASSES, PLACES};
 
 /// Enough nets to meet each fault.
 const NETS: u64 = 1_000;
 
-/// The words of what answers bring.
+/// The words of what answers bring: the missing numbers, or the sums of a class.
 #[derive(Clone, Copy, PartialEq, Debug)]
 enum Plane {
     Missing,
-    Sums,
+    Sums(usize),
 }
 
-const PLANES: [Plane; 2] = [Plane::Missing, Plane::Sums];
+const PLANES: [Plane; 3] = [Plane::Missing, Plane::Sums(0), Plane::Sums(CLASSES - 1)];
 
 impl Plane {
     /// By receiver.
     fn of(self, outbox: &mut Outbox) -> &mut [u64; PLACES] {
         match self {
             Plane::Missing => &mut outbox.missing,
-            Plane::Sums => &mut outbox.sums,
+            Plane::Sums(class) => &mut outbox.sums[class],
         }
     }
 
-    /// Whether what a word brings is out of form.
+    /// Whether what a word brings is out of form, of missing numbers that of the first class.
     fn is_beyond(self, word: u64) -> bool {
         match self {
             Plane::Missing => word as u8 > MOST_MISSING,
-            Plane::Sums => word >= SUM_LIMIT,
+            Plane::Sums(_) => word >= SUM_LIMIT,
         }
     }
 }
@@ -76,9 +76,12 @@ enum Fault {
     StartPostedOver(Plane),
     AnswerPostedBesideTheStart,
     AnswerPostedWithout(Plane),
-    AnswerPostedIntoOneByte,
+    PastCPosted,
+    PastCLeftByThePost,
+    MissingPastCLeftByThePost,
     BothReadAsTheAnswer,
     MissingReadFromAllBytes,
+    MissingReadFromTheTop,
     OutOfForm(Stray, Plane),
     AnswerUnbounded(Plane),
     DeliveryToItself,
@@ -94,9 +97,12 @@ fn faults() -> Vec<Fault> {
         Fault::EmptyingClearsOneSet,
         Fault::StartPostedBesideTheAnswer,
         Fault::AnswerPostedBesideTheStart,
-        Fault::AnswerPostedIntoOneByte,
+        Fault::PastCPosted,
+        Fault::PastCLeftByThePost,
+        Fault::MissingPastCLeftByThePost,
         Fault::BothReadAsTheAnswer,
         Fault::MissingReadFromAllBytes,
+        Fault::MissingReadFromTheTop,
         Fault::DeliveryToItself,
         Fault::SetTrimmedToK,
         Fault::WordPastKCleared,
@@ -110,8 +116,9 @@ fn faults() -> Vec<Fault> {
 }
 
 /// Of an opening.
-const FRESH_FAULTS: [Fault; 3] =
-    [Fault::FreshLeaves(Plane::Missing), Fault::FreshLeaves(Plane::Sums), Fault::RefusedFreshClearsTheSets];
+fn fresh_faults() -> impl Iterator<Item = Fault> {
+    PLANES.map(Fault::FreshLeaves).into_iter().chain([Fault::RefusedFreshClearsTheSets])
+}
 
 /// The net with its words changed.
 fn changed(net: &Mail, change: impl Fn(&mut Outbox)) -> Mail {
@@ -130,7 +137,7 @@ fn has_stray(net: &Mail, stray: Stray, plane: Plane) -> bool {
         let Outbox { starts, answers, .. } = outbox;
         (0..).zip(plane.of(&mut outbox)).any(|(receiver, &mut word)| {
             let (start, answer) = (set::contains(starts, receiver), set::contains(answers, receiver));
-            plane.is_beyond(word) && stray.is_at(net.k, sender, receiver, start, answer)
+            plane.is_beyond(word) && stray.is_at(net.config.k, sender, receiver, start, answer)
         })
     })
 }
@@ -141,6 +148,9 @@ impl faulty::Fault<Mail> for Fault {
             Fault::BothReadAsTheAnswer => answers_first(net).is_well_formed(),
             Fault::MissingReadFromAllBytes => {
                 changed(net, |outbox| outbox.missing = outbox.missing.map(|word| word.min(255))).is_well_formed()
+            }
+            Fault::MissingReadFromTheTop => {
+                changed(net, |outbox| outbox.missing = outbox.missing.map(u64::swap_bytes)).is_well_formed()
             }
             Fault::AnswerUnbounded(plane) => changed(net, |outbox| plane.of(outbox).fill(0)).is_well_formed(),
             Fault::OutOfForm(stray, plane) => net.is_well_formed() && !has_stray(net, stray, plane),
@@ -170,11 +180,12 @@ impl faulty::Fault<Mail> for Fault {
             return;
         }
         let (was_from, mut was_to) = (before.outboxes[sender], before.outboxes[receiver]);
-        let k = net.k;
+        let (Config { k, classes }, held) = (net.config, net.stations[receiver].held);
         let parent = net.stations[receiver].parent;
         let at_parent = usize::from(parent);
         let [from, to] = net.outboxes.get_disjoint_mut([sender, receiver]).expect("different stations");
         let posted = to.starts & !was_to.starts;
+        let answered = net.stations[receiver].state == FINISHED;
         match self {
             Fault::EmptyingClearsOneSet if set::contains(was_from.starts, step.receiver) => {
                 from.answers = was_from.answers
@@ -184,16 +195,20 @@ impl faulty::Fault<Mail> for Fault {
             Fault::StartPostedOver(plane) => set::members(posted).for_each(|r| plane.of(to)[usize::from(r)] = 0),
             Fault::AnswerPostedBesideTheStart if set::contains(to.answers, parent) => to.starts |= was_to.starts,
             Fault::AnswerPostedWithout(plane) => plane.of(to)[at_parent] = plane.of(&mut was_to)[at_parent],
-            Fault::AnswerPostedIntoOneByte => to.missing[at_parent] |= was_to.missing[at_parent] & !0xff,
+            Fault::PastCPosted if answered => to.put(parent, &held),
+            Fault::PastCLeftByThePost if answered => {
+                (classes.into()..CLASSES).for_each(|class| to.sums[class][at_parent] = was_to.sums[class][at_parent])
+            }
+            Fault::MissingPastCLeftByThePost if answered && classes < MOST_CLASSES => {
+                to.missing[at_parent] |= was_to.missing[at_parent] & u64::MAX << (8 * classes)
+            }
             Fault::SetTrimmedToK => from.starts &= u64::MAX >> (64 - k),
             Fault::WordPastKCleared => net.outboxes.iter_mut().skip(k.into()).for_each(|outbox| outbox.answers = 0),
             _ => {}
         }
     }
-}
 
-impl NetCalls<Mail> for Fault {
-    fn fresh(&self, map: &Map, net: &mut Mail) -> Result<(), Refusal> {
+    fn fresh(self, map: &Map, net: &mut Mail) -> Result<(), Refusal> {
         let before = net.clone();
         let opened = Model.fresh(map, net);
         for (outbox, mut was) in net.outboxes.iter_mut().zip(before.outboxes) {
@@ -205,32 +220,20 @@ impl NetCalls<Mail> for Fault {
         }
         opened
     }
-
-    fn step(&self, net: &mut Mail, step: Step) -> Result<Step, Refusal> {
-        self.on(net, |faulty| faulty.step(step))
-    }
-
-    fn draw(&self, net: &mut Mail, draw: u16) -> Result<Step, Refusal> {
-        self.on(net, |faulty| faulty.draw(draw))
-    }
-
-    fn run(&self, net: &mut Mail, draws: &[u16]) -> Run {
-        self.on(net, |faulty| faulty.run(draws))
-    }
 }
 
 #[test]
 fn the_faultless_passes() {
-    hostile(&Fault::Nothing, NETS);
-    freshness(&Fault::Nothing, NETS);
+    hostile(&Under(Fault::Nothing), NETS);
+    freshness(&Under(Fault::Nothing), NETS);
 }
 
 #[test]
 fn comparison_catches_every_fault() {
     for fault in faults() {
-        assert!(is_caught(|| hostile(&fault, NETS)), "{fault:?} passes");
+        assert!(is_caught(|| hostile(&Under(fault), NETS)), "{fault:?} passes");
     }
-    for fault in FRESH_FAULTS {
-        assert!(is_caught(|| freshness(&fault, NETS)), "{fault:?} passes");
+    for fault in fresh_faults() {
+        assert!(is_caught(|| freshness(&Under(fault), NETS)), "{fault:?} passes");
     }
 }

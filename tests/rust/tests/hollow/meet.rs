@@ -1,18 +1,16 @@
 //! Stations that meet: document 01's hollow programs and wrong turns, and those of missing readings, against the
 //! comparisons and against demand 3.
 
-use super::faulty::{self, Fault as _};
+use super::faulty::{self, demand_3, Fault as _};
 use super::is_caught;
 use conformance::calls::{Model, NetCalls};
-use conformance::compare::net::{hostile, list, lists};
-use conformance::gen::map::accepted;
-use conformance::model::aggregate::{Aggregate, MOST_MISSING, NO_READING};
+use conformance::compare::net::{hostile, lists};
+use conformance::model::aggregate::{Aggregate, Cell, MOST_MISSING, NO_READING};
 use conformance::model::map::Map;
 use conformance::model::meet::{Meet, ANSWER, PASS, REPORT, WAKE};
 use conformance::model::net::{Net, Run, Step};
 use conformance::model::refusal::{Cause, Refusal};
-use conformance::model::{set, ROOT};
-use conformance::rng::for_cases;
+use conformance::model::{set, CLASSES, ROOT};
 
 /// Enough lists, and enough nets, to meet each fault.
 const LISTS: u64 = 40;
@@ -61,10 +59,10 @@ const FORM_FAULTS: [Fault; 2] = [Fault::MissingUnbounded, Fault::MostMissingOutO
 impl faulty::Fault<Meet> for Fault {
     fn is_well_formed(self, net: &Meet) -> bool {
         let mut seen = net.clone();
-        for held in seen.stations.iter_mut().map(|station| &mut station.held) {
+        for missing in seen.stations.iter_mut().flat_map(|station| &mut station.held.missing) {
             match self {
-                Fault::MissingUnbounded => held.missing = 0,
-                Fault::MostMissingOutOfForm if held.missing == MOST_MISSING => held.missing += 1,
+                Fault::MissingUnbounded => *missing = 0,
+                Fault::MostMissingOutOfForm if *missing == MOST_MISSING => *missing += 1,
                 _ => {}
             }
         }
@@ -92,9 +90,9 @@ impl faulty::Fault<Meet> for Fault {
                 receiver.waits = set::size(receiver.unstarted).saturating_sub(1);
             }
             (Fault::StartTakenAsNewParent, PASS) if step.receiver != ROOT => receiver.parent = step.sender,
-            (Fault::TotalFixedBeforehand, REPORT) => receiver.held = Aggregate { sum: 23, missing: 0 },
+            (Fault::TotalFixedBeforehand, REPORT) => receiver.held = Aggregate::of([Cell { sum: 23, missing: 0 }]),
             (Fault::MissingKeptBack, ANSWER) => receiver.held.missing = missing_before,
-            (Fault::MissingAddedAtTheReport, REPORT) => receiver.held.sum += u64::from(missing_before),
+            (Fault::MissingAddedAtTheReport, REPORT) => receiver.held.sums[0] += u64::from(missing_before[0]),
             _ => {}
         }
     }
@@ -104,8 +102,12 @@ impl NetCalls<Meet> for Fault {
     fn fresh(&self, map: &Map, net: &mut Meet) -> Result<(), Refusal> {
         Model.fresh(map, net)?;
         if *self == Fault::NoReadingAddedToTheSum {
-            for held in net.stations.iter_mut().map(|station| &mut station.held).filter(|held| held.missing == 1) {
-                *held = Aggregate { sum: NO_READING.into(), missing: 0 };
+            for held in net.stations.iter_mut().map(|station| &mut station.held) {
+                let cells = (0..CLASSES).map(|class| match held.cell(class) {
+                    Cell { missing: 1, .. } => Cell { sum: NO_READING.into(), missing: 0 },
+                    cell => cell,
+                });
+                *held = Aggregate::of(cells);
             }
         }
         Ok(())
@@ -140,21 +142,11 @@ impl NetCalls<Meet> for Fault {
     }
 }
 
-/// Demand 3 and the run's formula, from calls and answers alone.
-fn demand_3(fault: Fault) {
-    for_cases(LISTS, |rng| {
-        let map = accepted(rng);
-        let mut net = Meet::set_up(&map);
-        fault.fresh(&map, &mut net).expect("the map is accepted");
-        list(&fault, rng, &map, net, |net, call| fault.call(net, call));
-    });
-}
-
 #[test]
 fn the_faultless_passes() {
     lists(&Fault::Nothing, LISTS);
     hostile(&Fault::Nothing, NETS);
-    demand_3(Fault::Nothing);
+    demand_3(&Fault::Nothing, LISTS);
 }
 
 #[test]
@@ -171,6 +163,6 @@ fn comparison_catches_every_fault() {
 #[test]
 fn demand_3_catches_every_other_fault() {
     for fault in FAULTS.into_iter().filter(|&fault| fault != Fault::StepAlwaysRefused) {
-        assert!(is_caught(|| demand_3(fault)), "{fault:?} passes");
+        assert!(is_caught(|| demand_3(&fault, LISTS)), "{fault:?} passes");
     }
 }

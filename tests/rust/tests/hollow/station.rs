@@ -1,11 +1,12 @@
-//! One station: what may go wrong with a missing number, in the record and handed over.
+//! One station: what may go wrong with missing numbers and with classes, in the record, handed over, and given.
 
 use super::is_caught;
 use conformance::calls::{Model, StationCalls};
 use conformance::compare::station::{at_extremes, lists};
-use conformance::model::aggregate::MOST_MISSING;
+use conformance::model::aggregate::{Aggregate, Cell, MOST_MISSING};
 use conformance::model::refusal::{Cause, Refusal};
-use conformance::model::station::{Answer, Event, Process};
+use conformance::model::station::{Event, Process};
+use conformance::model::{CLASSES, MOST_CLASSES};
 
 /// Enough lists to meet each fault.
 const LISTS: u64 = 5_000;
@@ -20,9 +21,17 @@ enum Fault {
     TooManyHandedOverOutOfForm,
     MissingNotAdded,
     JoinedUpToTheBound,
+    LastClassUnbounded,
+    PastCBounded,
+    LastClassNotJoined,
+    PastCJoined,
+    PastCCleared,
+    PastCGiven,
+    GivenWhenRefused,
+    NineClassesInForm,
 }
 
-const FAULTS: [Fault; 7] = [
+const FAULTS: [Fault; 15] = [
     Fault::RecordUnbounded,
     Fault::MostInTheRecordRefused,
     Fault::HandedOverUnbounded,
@@ -30,35 +39,97 @@ const FAULTS: [Fault; 7] = [
     Fault::TooManyHandedOverOutOfForm,
     Fault::MissingNotAdded,
     Fault::JoinedUpToTheBound,
+    Fault::LastClassUnbounded,
+    Fault::PastCBounded,
+    Fault::LastClassNotJoined,
+    Fault::PastCJoined,
+    Fault::PastCCleared,
+    Fault::PastCGiven,
+    Fault::GivenWhenRefused,
+    Fault::NineClassesInForm,
 ];
 
-impl StationCalls for Fault {
-    /// The model's answer to a record or an answer with another missing number than it has.
-    fn event(&self, process: &mut Process, mut event: Event) -> Result<Option<Answer>, Refusal> {
-        let before = process.station.held.missing;
-        let seen = &mut process.station.held.missing;
-        match (self, &mut event) {
-            (Fault::RecordUnbounded, _) => *seen = before.min(MOST_MISSING),
-            (Fault::MostInTheRecordRefused, _) if before == MOST_MISSING => *seen += 1,
-            (Fault::HandedOverUnbounded, Event::TakeAnswer(given)) => given.missing = given.missing.min(MOST_MISSING),
-            (Fault::MostHandedOverRefused, Event::TakeAnswer(given)) if given.missing == MOST_MISSING => {
-                given.missing += 1
+impl Fault {
+    /// What the guards see of something held or handed over.
+    fn seen(self, mut gathered: Aggregate, handed_over: bool, classes: u8) -> Aggregate {
+        for missing in &mut gathered.missing {
+            match (self, handed_over) {
+                (Fault::RecordUnbounded, false) | (Fault::HandedOverUnbounded, true) => *missing = 0,
+                (Fault::MostInTheRecordRefused, false) | (Fault::MostHandedOverRefused, true)
+                    if *missing == MOST_MISSING =>
+                {
+                    *missing += 1
+                }
+                _ => {}
             }
-            (Fault::MissingNotAdded, Event::TakeAnswer(given)) if given.is_bounded() => given.missing = 0,
-            _ => {}
         }
-        let hidden = before.wrapping_sub(*seen);
-        let answer = Model.event(process, event);
-        let left = &mut process.station.held.missing;
-        *left = left.wrapping_add(hidden);
+        if self == Fault::LastClassUnbounded && (1..=MOST_CLASSES).contains(&classes) {
+            gathered.put(usize::from(classes) - 1, Cell::default());
+        }
+        gathered
+    }
+
+    /// Whether the guards let an event pass.
+    fn admit(self, process: &Process, event: Event) -> Result<Option<u8>, Refusal> {
+        let mut process = *process;
+        let event = match event {
+            Event::TakeAnswer(gathered) => Event::TakeAnswer(self.seen(gathered, true, process.classes)),
+            _ => event,
+        };
+        process.station.held = self.seen(process.station.held, false, process.classes);
+        process.classes = match (self, process.classes) {
+            (Fault::PastCBounded, 1..=MOST_CLASSES) | (Fault::NineClassesInForm, 9) => MOST_CLASSES,
+            (_, classes) => classes,
+        };
+        Model.event(&mut process, event).0.map_err(|refusal| match (self, refusal.number) {
+            (Fault::TooManyHandedOverOutOfForm, 12) => Cause::OutOfForm.alone(),
+            _ => refusal,
+        })
+    }
+
+    /// What becomes of an event that passed, by what the record held before it.
+    fn spoil(self, event: Event, classes: u8, before: &Aggregate, held: &mut Aggregate, given: &mut Aggregate) {
+        let (past_c, last) = (classes.into()..CLASSES, usize::from(classes) - 1);
         match (self, event) {
-            (Fault::JoinedUpToTheBound, Event::TakeAnswer(_)) if answer.is_ok() => *left = (*left).min(MOST_MISSING),
-            (Fault::TooManyHandedOverOutOfForm, Event::TakeAnswer(given)) if given.missing > MOST_MISSING => {
-                return Err(Cause::OutOfForm.alone())
+            (Fault::MissingNotAdded, _) => held.missing = before.missing,
+            (Fault::JoinedUpToTheBound, _) => {
+                held.missing[..=last].iter_mut().for_each(|missing| *missing = (*missing).min(MOST_MISSING))
             }
+            (Fault::LastClassNotJoined, _) => held.put(last, before.cell(last)),
+            (Fault::PastCJoined, Event::TakeAnswer(gathered)) => {
+                past_c.for_each(|class| held.sums[class] = held.sums[class].wrapping_add(gathered.sums[class]))
+            }
+            (Fault::PastCCleared, _) => past_c.for_each(|class| held.put(class, Cell::default())),
+            (Fault::PastCGiven, Event::SendAnswer | Event::Report) => *given = *held,
             _ => {}
         }
-        answer
+    }
+}
+
+/// An event without its guards, and what it gives.
+fn make(Process { classes, station, .. }: &mut Process, event: Event) -> Aggregate {
+    match event {
+        Event::TakeStart(from) => station.take_start(from),
+        Event::SendStart(to) => station.send_start(to),
+        Event::TakeAnswer(gathered) => station.take_answer(&gathered, *classes),
+        Event::SendAnswer | Event::Report => return station.finish(*classes).gathered,
+    }
+    Aggregate::default()
+}
+
+impl StationCalls for Fault {
+    fn event(&self, process: &mut Process, event: Event) -> (Result<Option<u8>, Refusal>, Aggregate) {
+        let before = *process;
+        let verdict = self.admit(process, event);
+        let mut given = Aggregate::default();
+        if verdict.is_ok() && process.classes <= MOST_CLASSES {
+            given = make(process, event);
+            self.spoil(event, before.classes, &before.station.held, &mut process.station.held, &mut given);
+        }
+        if *self == Fault::GivenWhenRefused && verdict.is_err() {
+            given = before.station.held;
+        }
+        (verdict, given)
     }
 }
 

@@ -6,6 +6,9 @@ use Rattle.capi.proofs.map.fault.Tie as tie
 enum-told : tie.Need-enum-told
 enum-told c = search needs
 
+enum-told-2 : tie.Need-enum-told-2
+enum-told-2 c = search needs
+
 enum-known-why : tie.Need-enum-known-why
 enum-known-why c = search needs
 
@@ -46,22 +49,26 @@ returns : tie.Need-returns
 returns c = search needs
 
 returns-2 : tie.Need-returns-2
-returns-2 c = rw (c .before .before .why .given .1) (c .with-value .ensures)
+returns-2 c = search needs
 
 returns-3 : tie.Need-returns-3
-returns-3 c = rw (c .before .before .why2 .given .1) (c .with-value2 .ensures)
+returns-3 c = rw (c .before .before .why .given .1) (c .with-value .ensures)
 
 returns-4 : tie.Need-returns-4
-returns-4 c = rw (c .before .before .why3 .given .1) (c .with-value3 .ensures)
+returns-4 c = rw (c .before .before .why2 .given .1) (c .with-value2 .ensures)
 
 returns-5 : tie.Need-returns-5
-returns-5 c = rw (c .before .before .why4 .given .1) (c .with-value4 .ensures)
+returns-5 c = rw (c .before .before .why3 .given .1) (c .with-value3 .ensures)
+
+returns-6 : tie.Need-returns-6
+returns-6 c = rw (c .before .before .why4 .given .1) (c .with-value4 .ensures)
 
 pub fault-spec : {M : Type 1} → statement M
 fault-spec =
     tie.close
     (tie.spec
     enum-told
+    enum-told-2
     enum-known-why
     cast-with-value
     with-value-requires
@@ -78,4 +85,5 @@ fault-spec =
     returns-2
     returns-3
     returns-4
-    returns-5)
+    returns-5
+    returns-6)

@@ -6,8 +6,8 @@ use native.Mathlib.Omega.{arith}
 use lib.ListN.{getD}
 use lib.Pow.{pow-mono}
 use borrow.Author.Needs.{needs}
-use Rattle.linemap.specs.Numbers.{number}
-use Rattle.linemap.proofs.Digits.{number-small}
+use Rattle.finite.specs.Numbers.{number}
+use Rattle.finite.proofs.Digits.{number-small}
 use Rattle.linemap.proofs.numbers.get.Statement.{statement}
 use Rattle.linemap.proofs.numbers.get.Tie as tie
 

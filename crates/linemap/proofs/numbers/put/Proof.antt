@@ -6,7 +6,7 @@ use native.Mathlib.Nat.{add-assoc}
 use native.Mathlib.Omega.{arith}
 use lib.ListN.{length, set}
 use borrow.Author.Needs.{needs}
-use Rattle.linemap.specs.Numbers.{bytes}
+use Rattle.finite.specs.Numbers.{bytes}
 use Rattle.linemap.specs.internal.Stages.{put}
 use Rattle.linemap.proofs.Put.{put-none, put-first}
 use Rattle.linemap.proofs.numbers.put.Statement.{statement}

@@ -4,7 +4,7 @@ use Prim.Native.Nat.{_≤_, _-_}
 use native.Mathlib.Omega.{arith}
 use native.Mathlib.Numerals.{add-one}
 use borrow.Author.Needs.{needs}
-use Rattle.linemap.specs.Numbers.{sumWords}
+use Rattle.linemap.specs.Words.{sumWords}
 use Rattle.linemap.proofs.numbers.sum_words.Statement.{statement}
 use Rattle.linemap.proofs.numbers.sum_words.Tie as tie
 

@@ -13,23 +13,20 @@ returns c =
     let a = c .before .before .args in
     rw (lt-leb (a .back) (length (a .s .now)) (omega arith))
 
-get-requires : tie.Need-get-requires
-get-requires c κs = search needs
-
-cast-t7 : tie.Need-cast-t7
-cast-t7 c = search needs
+sub-get : tie.Need-sub-get
+sub-get c = search needs
 
 add-get : tie.Need-add-get
 add-get c = search needs
 
-get-requires-2 : tie.Need-get-requires-2
-get-requires-2 c κs = search needs
+get-requires : tie.Need-get-requires
+get-requires c κs = search needs
 
 returns-2 : tie.Need-returns-2
 unfolding rowOf
 returns-2 c =
-    let a = c .before .before .before .before .args in
+    let a = c .before .before .before .args in
     rw (le-leb (a .back) (length (a .s .now)) (omega arith)) (cc)
 
 pub read-row-spec : {M : Type 1} → statement M
-read-row-spec = tie.close (tie.spec returns get-requires cast-t7 add-get get-requires-2 returns-2)
+read-row-spec = tie.close (tie.spec returns sub-get add-get get-requires returns-2)

@@ -1,4 +1,7 @@
 -- `linemap::writing::put_map` meets its contract: rows, trailer and check word, one right after the other. Assumes nothing.
+use mathlib.Core.Path.{ap}
+use Prim.Native.Nat.{ℕ, _*_}
+use native.Mathlib.Omega.{arith}
 use borrow.Author.Needs.{needs}
 use Rattle.linemap.proofs.StoredForm.{stored-laid}
 use Rattle.linemap.proofs.writing.put_map.Statement.{statement}
@@ -7,11 +10,17 @@ use Rattle.linemap.proofs.writing.put_map.Tie as tie
 cast-k : tie.Need-cast-k
 cast-k c = search needs
 
+row-length-requires : tie.Need-row-length-requires
+row-length-requires c κs = search needs
+
 put-rows-requires : tie.Need-put-rows-requires
 put-rows-requires c κs = search needs
 
 put-trailer-requires : tie.Need-put-trailer-requires
-put-trailer-requires c κs = search needs
+put-trailer-requires c κs =
+    let start = c .before .before .before .before .before .before .before .before in
+    let width-is = c .before .before .before .before .before .row-length .ensures .0 in
+    omega (arith, ap (λ (w : ℕ). w * start .args .m .k) width-is, start .pre .2)
 
 stored-length-requires : tie.Need-stored-length-requires
 stored-length-requires c κs = search needs
@@ -36,11 +45,14 @@ same-length c = search needs
 
 returns : tie.Need-returns
 returns c =
-    let start = c .before .before .before .before .before .before .before .before .before .before .before .before .before .before .before .before .before .before in
+    let trailer = c .before .before .before .before .before .before .before .before .before .before in
+    let rows = trailer .before .before .before .before in
+    let width-is = rows .before .before .row-length .ensures .0 in
+    let start = rows .before .before .before .before .before in
     let need-is = c .before .before .before .before .before .before .before .stored-length .ensures in
-    stored-laid (start .args .m) (start .args .buf .now) (start .pre .1)
-    (c .before .before .before .before .before .before .before .before .before .before .before .before .before .before .put-rows .ensures)
-    (c .before .before .before .before .before .before .before .before .before .before .put-trailer .ensures)
+    stored-laid (start .args .m) (start .args .buf .now) (start .pre .2)
+    (rows .put-rows .ensures)
+    (rw width-is at (trailer .put-trailer .ensures))
     (rw need-is at (c .before .before .before .before .before .sum-words .ensures))
     (c .before .before .before .check-word .ensures)
     (rw need-is at (c .before .before .put .ensures))
@@ -50,6 +62,7 @@ put-map-spec =
     tie.close
     (tie.spec
     cast-k
+    row-length-requires
     put-rows-requires
     put-trailer-requires
     stored-length-requires

@@ -1,20 +1,25 @@
--- `linemap::writing::put_row` meets its contract: two numbers, one right after the other. Assumes nothing.
-use Prim.Native.Nat.{_+_}
+-- `linemap::writing::put_row` meets its contract: the counts, and the set right after them. Assumes nothing.
+use mathlib.Core.Path.{sym, ap}
+use Prim.Native.Nat.{ℕ, _+_, _*_}
 use borrow.Author.Needs.{needs}
-use Rattle.linemap.specs.Numbers.{bytes}
+use Rattle.finite.specs.Numbers.{bytes}
+use Rattle.linemap.specs.Stored.{countBytes}
 use Rattle.linemap.proofs.Put.{lay}
-use Rattle.linemap.proofs.Digits.{length-bytes}
+use Rattle.linemap.proofs.StoredForm.{length-counts}
 use Rattle.linemap.proofs.writing.put_row.Statement.{statement}
 use Rattle.linemap.proofs.writing.put_row.Tie as tie
 
-put-requires : tie.Need-put-requires
-put-requires c κs = search needs
+put-counts-requires : tie.Need-put-counts-requires
+put-counts-requires c κs = search needs
+
+mul-put : tie.Need-mul-put
+mul-put c = search needs
 
 add-put : tie.Need-add-put
 add-put c = search needs
 
-put-requires-2 : tie.Need-put-requires-2
-put-requires-2 c κs = search needs
+put-requires : tie.Need-put-requires
+put-requires c κs = search needs
 
 same-length : tie.Need-same-length
 same-length c = search needs
@@ -22,8 +27,10 @@ same-length c = search needs
 returns : tie.Need-returns
 returns c =
     let a = c .before .before .before .before .before .before .before .before .before .args in
-    lay (a .buf .now) (a .at) (bytes 4 (a .count)) (bytes 8 (a .set)) (a .at + 4)
-    (c .before .before .before .before .before .before .put .ensures) (c .before .before .put2 .ensures) (simp length-bytes)
+    lay (a .buf .now) (a .at) (countBytes (a .classes) (a .counts .now) (a .i)) (bytes 8 (a .set)) (a .at + 4 * a .classes)
+    (c .before .before .before .before .before .before .put-counts .ensures) (c .before .before .put .ensures)
+    (ap (λ (n : ℕ). a .at + n) (sym (length-counts (a .classes) (a .counts .now) (a .i))))
 
 pub put-row-spec : {M : Type 1} → statement M
-put-row-spec = tie.close (tie.spec put-requires add-put put-requires-2 same-length returns)
+put-row-spec =
+    tie.close (tie.spec put-counts-requires mul-put add-put put-requires same-length returns)

@@ -34,7 +34,7 @@ same-length c = search needs
 returns : tie.Need-returns
 returns c =
     let a = c .before .before .before .before .before .before .before .before .before .before .before .before .before .before .before .before .before .args in
-    trailer-laid (a .buf .now) (a .k) (a .lot)
+    trailer-laid (a .buf .now) (a .width) (a .k) (a .lot)
     (c .before .before .before .before .before .before .before .before .before .before .before .before .before .before .put .ensures)
     (c .before .before .before .before .before .before .before .before .before .before .put2 .ensures)
     (c .before .before .before .before .before .before .put3 .ensures)

@@ -3,6 +3,7 @@
 use mathlib.Core.Path.{_≡_, sym}
 use mathlib.Core.List.{List}
 use Prim.Native.Nat.{ℕ, _≤_}
+use native.Mathlib.Nat.{le-of-eq}
 use native.Mathlib.Omega.{arith}
 use lib.ListN.{length, take, replicate, length-replicate}
 use lib.Seq.{length-take-le}
@@ -35,7 +36,7 @@ module _ (c : tie.After-put-output) where
   written-is : take (c .put-output .result) (c .put-output .last .1 .0) ≡ outputOf input
   written-is =
       front-is input (replicate outputRoom 0) (c .put-output .ensures .0) (c .put-output .ensures .1)
-      (omega (arith, length-replicate {A = ℕ} outputRoom 0))
+      (le-of-eq (sym (length-replicate {A = ℕ} outputRoom 0)))
 
 slice-aggregate-read-input : tie.Need-slice-aggregate-read-input
 slice-aggregate-read-input c = search needs
@@ -53,7 +54,7 @@ slice-aggregate-put-output : tie.Need-slice-aggregate-put-output
 slice-aggregate-put-output c = sym (length-take-le _ _ (read-le (c .before)))
 
 slice-aggregate-put-output-2 : tie.Need-slice-aggregate-put-output-2
-slice-aggregate-put-output-2 c = search needs
+slice-aggregate-put-output-2 c = sym (length-replicate {A = ℕ} outputRoom 0)
 
 put-output-requires : tie.Need-put-output-requires
 put-output-requires c κs = search needs

@@ -3,11 +3,17 @@ use borrow.Author.Needs.{needs}
 use Rattle.station.proofs.Process.gives.Statement.{statement}
 use Rattle.station.proofs.Process.gives.Tie as tie
 
+config-requires : tie.Need-config-requires
+config-requires c κs = search needs
+
+clip-requires : tie.Need-clip-requires
+clip-requires c κs = search needs
+
 ended-requires : tie.Need-ended-requires
 ended-requires c κs = search needs
 
 returns : tie.Need-returns
-returns c = rw (c .ended .ensures)
+returns c = rw (c .ended .ensures, c .before .clip .ensures, c .before .before .config .ensures)
 
 pub gives-spec : {M : Type 1} → statement M
-gives-spec = tie.close (tie.spec ended-requires returns)
+gives-spec = tie.close (tie.spec config-requires clip-requires ended-requires returns)

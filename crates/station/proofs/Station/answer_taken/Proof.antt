@@ -5,23 +5,20 @@ use borrow.Author.Needs.{needs}
 use Rattle.station.proofs.Station.answer_taken.Statement.{statement}
 use Rattle.station.proofs.Station.answer_taken.Tie as tie
 
-is-joinable-requires : tie.Need-is-joinable-requires
-is-joinable-requires c κs = search needs
-
-returns : tie.Need-returns
-returns c = rw (sym (c .before .is-joinable .ensures) ∙ not-true _ (c .if1 .taken))
-
 join-requires : tie.Need-join-requires
 join-requires c κs = search needs
+
+returns : tie.Need-returns
+returns c = rw (sym (c .before .before .join .ensures .0) ∙ not-true _ (c .if1 .taken))
 
 less-one-requires : tie.Need-less-one-requires
 less-one-requires c κs = search needs
 
 returns-2 : tie.Need-returns-2
 returns-2 c =
-    let may = sym (c .before .before .before .is-joinable .ensures) ∙ not-false _ (c .before .before .if1 .left) in
-    rw (c .less-one .ensures, c .before .join .ensures, may)
+    let join = c .before .before .before .before .join in
+    let may = sym (join .ensures .0) ∙ not-false _ (c .before .before .if1 .left) in
+    rw (c .less-one .ensures, join .ensures .1, may)
 
 pub answer-taken-spec : {M : Type 1} → statement M
-answer-taken-spec =
-    tie.close (tie.spec is-joinable-requires returns join-requires less-one-requires returns-2)
+answer-taken-spec = tie.close (tie.spec join-requires returns less-one-requires returns-2)

@@ -2,8 +2,8 @@
 -- read, and a number is the same in a longer list. Assumes nothing.
 use mathlib.Core.Path.{_≡_, refl, sym, ap, ap₂, _∙_}
 use mathlib.Core.List.{List, [], _∷_, _++_}
-use Prim.Native.Nat.{ℕ, zero, suc, _+_, _*_, _-_, _/_, _%_, _^_, _≤_, _<_}
-use native.Mathlib.Nat.{mod-lt, mod-one, mul-suc}
+use Prim.Native.Nat.{ℕ, zero, suc, _+_, _*_, _/_, _%_, _^_, _≤_, _<_}
+use native.Mathlib.Nat.{mod-one, mul-suc}
 use native.Mathlib.Numerals.{add-one}
 use native.Mathlib.Omega.{arith}
 use lib.Arith.{mod-mul, digits-div, digits-mod}
@@ -11,8 +11,7 @@ use lib.Dec.{lit<}
 use lib.ListN.{length, getD, take, drop, List·getD-append}
 use lib.Pow.{pow-pos, pow-add}
 use lib.Seq.{drop-cons, take-add, drop-drop, getD-append-add}
-use Rattle.linemap.specs.Numbers.{number, bytes, sumWords}
-use Rattle.linemap.specs.Stored.{checkWord}
+use Rattle.finite.specs.Numbers.{number, bytes}
 
 pub length-bytes : (n x : ℕ) → length (bytes n x) ≡ n
 unfolding bytes
@@ -23,7 +22,7 @@ length-bytes (suc n) x = ap suc (length-bytes n (x / 2 ^ 8))
 pub power-more : (n : ℕ) → 2 ^ (8 * suc n) ≡ 2 ^ (8 * n) * 2 ^ 8
 power-more n = ap (λ (k : ℕ). 2 ^ k) (mul-suc 8 n) ∙ pow-add 2 (8 * n) 8
 
--- a number, and a sum of words, in the front of a list, and past its front
+-- a number in the front of a list, and past its front
 module _ (p q : List ℕ) where
   pub front-number : (n at : ℕ) → at + n ≤ length p → number (p ++ q) at n ≡ number p at n
   unfolding number
@@ -38,16 +37,6 @@ module _ (p q : List ℕ) where
       (ap (λ (i : ℕ). getD (p ++ q) i 0) e ∙ getD-append-add p q at 0)
       (past-number n (at + 1) (k + 1) (omega arith))
 
-  pub front-sum : (n at : ℕ) → at + 4 * n ≤ length p → sumWords (p ++ q) at n ≡ sumWords p at n
-  unfolding sumWords
-  front-sum zero at h = refl
-  front-sum (suc n) at h = rw (front-sum n at (omega arith), front-number 4 (at + 4 * n) (omega arith))
-
-  pub past-sum : (n at k : ℕ) → k ≡ length p + at → sumWords (p ++ q) k n ≡ sumWords q at n
-  unfolding sumWords
-  past-sum zero at k e = refl
-  past-sum (suc n) at k e = rw (past-sum n at k e, past-number 4 (at + 4 * n) (k + 4 * n) (omega arith))
-
 -- a number, its bytes, and the number again
 pub number-of-bytes : (n x : ℕ) → number (bytes n x) 0 n ≡ x % 2 ^ (8 * n)
 unfolding number bytes
@@ -58,24 +47,6 @@ number-of-bytes (suc n) x =
     let parts : x % (2 ^ (8 * n) * 2 ^ 8) ≡ (x / 2 ^ 8 % 2 ^ (8 * n)) * 2 ^ 8 + x % 2 ^ 8 =
     mod-mul x {m = 2 ^ (8 * n)} {c = 2 ^ 8} (pow-pos (8 * n)) (lit< tt) in
     omega (arith, ap (λ (k : ℕ). x % k) (power-more n))
-
--- the check word takes a sum to zero, and no other word does
-pub sum-small : (s : List ℕ) (at n : ℕ) → sumWords s at n < 2 ^ 32
-unfolding sumWords
-sum-small s at zero = lit< tt
-sum-small s at (suc n) = mod-lt (sumWords s at n + number s (at + 4 * n) 4) (lit< tt)
-
-pub check-small : (sum : ℕ) → checkWord sum < 2 ^ 32
-unfolding checkWord
-check-small sum = mod-lt (2 ^ 32 - sum) (lit< tt)
-
-pub check-zero : (sum : ℕ) → sum < 2 ^ 32 → (sum + checkWord sum) % 2 ^ 32 ≡ 0
-unfolding checkWord
-check-zero sum h = omega arith
-
-pub check-only : (sum w : ℕ) → sum < 2 ^ 32 → w < 2 ^ 32 → (sum + w) % 2 ^ 32 ≡ 0 → w ≡ checkWord sum
-unfolding checkWord
-check-only sum w h hw zero-sum = omega arith
 
 -- n elements from `at`
 abbrev pub segment : List ℕ → ℕ → ℕ → List ℕ

@@ -12,8 +12,3 @@ number s at (suc n) = getD s at 0 + 2 ^ 8 * number s (at + 1) n
 unfoldable pub bytes : ℕ → ℕ → List ℕ
 bytes zero x = []
 bytes (suc n) x = x % 2 ^ 8 ∷ bytes n (x / 2 ^ 8)
-
--- "words of 32 bits, added with wrap at 2^32": the n words from `at`
-unfoldable pub sumWords : List ℕ → ℕ → ℕ → ℕ
-sumWords s at zero = 0
-sumWords s at (suc n) = (sumWords s at n + number s (at + 4 * n) 4) % 2 ^ 32

@@ -1,0 +1,136 @@
+//! Classes, in either kind of net: one left out, one too many, and what stands past c looked at or altered.
+
+use super::faulty::{self, demand_3, Under};
+use super::is_caught;
+use conformance::calls::{Model, NetCalls};
+use conformance::compare::net::{freshness, hostile};
+use conformance::gen::net::Sample;
+use conformance::model::aggregate::Cell;
+use conformance::model::mail::Mail;
+use conformance::model::map::Map;
+use conformance::model::meet::Meet;
+use conformance::model::net::{Net, Step};
+use conformance::model::refusal::Refusal;
+use conformance::model::{CLASSES, MOST_CLASSES};
+
+/// Enough nets, and enough lists, to meet each fault.
+const NETS: u64 = 1_000;
+const LISTS: u64 = 40;
+
+#[derive(Clone, Copy, Default, PartialEq, Debug)]
+enum Fault {
+    #[default]
+    Nothing,
+    LastNotJoined,
+    AllJoinedAsTheFirst,
+    PastCAdded,
+    PastCCleared,
+    LastUnbounded,
+    OnlyTheFirstBounded,
+    PastCBounded,
+    NineInForm,
+    NoneInForm,
+    LastNotOpened,
+    PastCNotOpened,
+    ClassCountNotOpened,
+}
+
+/// Of the rules for a step.
+const FAULTS: [Fault; 9] = [
+    Fault::LastNotJoined,
+    Fault::AllJoinedAsTheFirst,
+    Fault::PastCAdded,
+    Fault::PastCCleared,
+    Fault::LastUnbounded,
+    Fault::OnlyTheFirstBounded,
+    Fault::PastCBounded,
+    Fault::NineInForm,
+    Fault::NoneInForm,
+];
+
+/// Of an opening.
+const FRESH_FAULTS: [Fault; 3] = [Fault::LastNotOpened, Fault::PastCNotOpened, Fault::ClassCountNotOpened];
+
+impl<N: Net> faulty::Fault<N> for Fault {
+    fn is_well_formed(self, net: &N) -> bool {
+        let (mut seen, classes) = (net.clone(), net.config().classes);
+        seen.config_mut().classes = match self {
+            Fault::LastUnbounded if classes > 1 => classes - 1,
+            Fault::OnlyTheFirstBounded if classes <= MOST_CLASSES => classes.min(1),
+            Fault::PastCBounded if classes > 0 => classes.max(MOST_CLASSES),
+            Fault::NineInForm if classes == MOST_CLASSES + 1 => MOST_CLASSES,
+            Fault::NoneInForm if classes == 0 => 1,
+            _ => classes,
+        };
+        seen.is_well_formed()
+    }
+
+    fn make(self, net: &mut N, step: Step) {
+        let (receiver, classes) = (usize::from(step.receiver), net.config().classes);
+        let before = net.stations()[receiver].held;
+        if classes > MOST_CLASSES {
+            return; // there are no rules for so many: passing for a net in form is fault enough
+        }
+        net.make(step);
+        let held = &mut net.stations_mut()[receiver].held;
+        if *held == before {
+            return;
+        }
+        let past_c = classes.into()..CLASSES;
+        let last = usize::from(classes) - 1;
+        match self {
+            Fault::LastNotJoined => held.put(last, before.cell(last)),
+            Fault::AllJoinedAsTheFirst => (1..=last).for_each(|class| held.put(class, held.cell(0))),
+            Fault::PastCAdded => held.sums[past_c].iter_mut().for_each(|sum| *sum = sum.wrapping_add(1)),
+            Fault::PastCCleared => past_c.for_each(|class| held.put(class, Cell::default())),
+            _ => {}
+        }
+    }
+
+    fn fresh(self, map: &Map, net: &mut N) -> Result<(), Refusal> {
+        let before = net.clone();
+        Model.fresh(map, net)?;
+        let past_c = map.classes.into()..CLASSES;
+        for (station, was) in net.stations_mut().iter_mut().zip(before.stations()) {
+            match self {
+                Fault::LastNotOpened => station.held.put(past_c.start - 1, Cell::default()),
+                Fault::PastCNotOpened => past_c.clone().for_each(|class| station.held.put(class, was.held.cell(class))),
+                _ => {}
+            }
+        }
+        if self == Fault::ClassCountNotOpened {
+            net.config_mut().classes = before.config().classes;
+        }
+        Ok(())
+    }
+}
+
+fn the_faultless_passes<N: Sample>() {
+    hostile::<N>(&Under(Fault::Nothing), NETS);
+    freshness::<N>(&Under(Fault::Nothing), NETS);
+    demand_3::<N>(&Under(Fault::Nothing), LISTS);
+}
+
+fn every_fault_is_caught<N: Sample>() {
+    for fault in FAULTS {
+        assert!(is_caught(|| hostile::<N>(&Under(fault), NETS)), "{fault:?} passes");
+    }
+    for fault in FRESH_FAULTS {
+        assert!(is_caught(|| freshness::<N>(&Under(fault), NETS)), "{fault:?} passes");
+    }
+    for fault in [Fault::LastNotJoined, Fault::AllJoinedAsTheFirst, Fault::LastNotOpened] {
+        assert!(is_caught(|| demand_3::<N>(&Under(fault), LISTS)), "{fault:?} passes demand 3");
+    }
+}
+
+#[test]
+fn stations_that_meet() {
+    the_faultless_passes::<Meet>();
+    every_fault_is_caught::<Meet>();
+}
+
+#[test]
+fn stations_with_mail() {
+    the_faultless_passes::<Mail>();
+    every_fault_is_caught::<Mail>();
+}
