@@ -7,7 +7,7 @@
        answer = number + 256 * value
    A refusal leaves all that was lent as it was, but for a run that stops with 11: it leaves the net reached. Pointers are never null, and
    point to that many elements, or to one record. What a call writes overlaps nothing else that it is lent. What stands between the fields
-   of a record says nothing, and need not come back. */
+   of a record says nothing: a net keeps it, and from a map or a station it need not come back. */
 #ifndef TALLY_H
 #define TALLY_H
 #include <stddef.h>
@@ -27,7 +27,7 @@ enum { TALLY_STATIONS = 64, TALLY_CLASSES = 8 };
 
 /* Bytes of stack that no call takes more than, its arguments included: events of a station, calls on maps, on stations that meet, and on
    stations with mail. */
-enum { TALLY_PROCESS_STACK = 1024, TALLY_MAP_STACK = 16384, TALLY_RENDEZVOUS_STACK = 32768, TALLY_MAILBOX_STACK = 32768 };
+enum { TALLY_PROCESS_STACK = 1024, TALLY_MAP_STACK = 16384, TALLY_RENDEZVOUS_STACK = 8192, TALLY_MAILBOX_STACK = 8192 };
 
 /* ---- one station --------------------------------------------------------------------------------------------------------------------
 

@@ -1,11 +1,14 @@
 -- A loop over the classes in use stores a cell in each: what it has done at class i, how it goes on, and what it leaves, written once for
 -- every such loop. Assumes nothing.
-use mathlib.Core.Path.{_≡_, refl, _∙_, ap, ap₂}
+use mathlib.Core.Path.{_≡_, refl, sym, _∙_, ap, ap₂}
 use mathlib.Core.Bool.{Bool, true, false, cond}
-use mathlib.Core.List.{List}
-use Prim.Native.Nat.{ℕ, _+_, _<_}
+use mathlib.Core.List.{List, _∷_}
+use Prim.Native.Nat.{ℕ, suc, _+_, _-_, _/_, _%_, _^_, _<_}
+use native.Mathlib.Omega.{arith}
 use lib.Dec.{ltb}
-use lib.ListN.{length, getD, set, length-set}
+use lib.ListN.{length, getD, set, drop, length-set}
+use lib.Seq.{getD-drop, drop-drop}
+use Rattle.finite.specs.Numbers.{bytes}
 use Rattle.finite.proofs.Below.{stored, stored-more, stored-table, tabulate-ext}
 use Rattle.aggregate.specs.declared.Cell.{Cell}
 use Rattle.aggregate.specs.declared.Aggregate.{Aggregate}
@@ -46,3 +49,14 @@ module _ (f : ℕ → Cell) (sums₀ missing₀ : List ℕ) (ls : length sums₀
         part : (p : Cell → ℕ) (b : Bool) (x y : Cell) → cond b (p x) (p y) ≡ p (cond b x y)
         part p true x y = refl
         part p false x y = refl
+
+-- the next byte, and those after it
+pub next-byte : (l : List ℕ) (i x : ℕ) → i < 8 → drop i l ≡ bytes (8 - i) x → (getD l i 0 ≡ x % 2 ^ 8) × (drop (i + 1) l ≡ bytes (8 - (i + 1)) (x / 2 ^ 8))
+unfolding bytes
+next-byte l i x h e =
+    let more : 8 - i ≡ suc (8 - (i + 1)) = omega arith in
+    let here : drop i l ≡ x % 2 ^ 8 ∷ bytes (8 - (i + 1)) (x / 2 ^ 8) = e ∙ ap (λ (n : ℕ). bytes n x) more in
+    let at : i ≡ i + 0 = omega arith in (
+      ap (λ (j : ℕ). getD l j 0) at ∙ sym (getD-drop i l 0 0) ∙ ap (λ (m : List ℕ). getD m 0 0) here,
+      sym (drop-drop 1 i l) ∙ ap (drop 1) here,
+    )

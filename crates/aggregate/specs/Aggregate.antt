@@ -2,7 +2,7 @@
 -- inside these records.
 use Prim.Native.Nat.{ℕ, _+_, _^_, min}
 use mathlib.Core.Bool.{Bool, _&&_, cond}
-use mathlib.Core.List.{[]}
+use mathlib.Core.List.{List, []}
 use lib.Dec.{eqb, ltb, leb}
 use lib.ListN.{getD, replicate}
 use Rattle.finite.specs.Below.{allBelow, tabulate}
@@ -89,6 +89,10 @@ missingWord a = number (a .missing) 0 8
 -- the aggregate of a sum for each class in use and of such a word
 unfoldable pub fromWords : Config → (ℕ → ℕ) → ℕ → Aggregate
 fromWords t sums word = places (λ i. cond (ltb i (used t)) (record { sum = sums i; missing = getD (bytes 8 word) i 0 }) zeroCell)
+
+-- the aggregate of eight sums and of such a word, in every place
+abbrev pub ofWords : List ℕ → ℕ → Aggregate
+ofWords sums word = record { sums = sums; missing = bytes 8 word }
 
 -- what stands past the end of a list of these: the language's default, which no rule speaks of
 abbrev pub absent : Aggregate

@@ -3,8 +3,9 @@ ghost use mathlib.Core.Path.{_≡_};
 ghost use mathlib.Core.Bool.{true, cond};
 ghost use Prim.Native.Nat.{ℕ, _<_};
 ghost use lib.ListN.{getD};
+ghost use Rattle.finite.specs.Numbers.{bytes};
 ghost use Rattle.aggregate.specs.Aggregate.{rootOf, isClassCount, valid, used, cell, cellBounded, bounded, nothing, cellGathered, gathered};
-ghost use Rattle.aggregate.specs.Aggregate.{joined, joinable, clipped, missingWord, fromWords};
+ghost use Rattle.aggregate.specs.Aggregate.{joined, joinable, clipped, missingWord, fromWords, ofWords};
 
 // What a net is opened with: the number of its stations, and of the classes that are counted.
 #[repr(C)]
@@ -214,9 +215,10 @@ fn wide(b: u8) -> u64
     b as u64
 }
 
-// The missing numbers in one word, a byte each, class 0 lowest.
+// The missing numbers in one word, a byte each, class 0 lowest, from which they are read again.
 pub fn missing_word(a: Aggregate) -> u64
-    ensures { λ r. ⌜ r ≡ missingWord a ⌝ }
+    ensures word { λ r. ⌜ r ≡ missingWord a ⌝ }
+    ensures again { λ r. ⌜ bytes 8 r ≡ a .missing ⌝ }
 {
     let mut word: u64 = 0;
     let mut i: usize = MOST_CLASSES;
@@ -238,6 +240,21 @@ pub fn from_words(t: Config, words: [u64; 8], word: u64) -> Aggregate
     let mut i: usize = 0;
     while i < c {
         sums[i] = words[i];
+        missing[i] = (rest % 256) as u8;
+        rest = rest / 256;
+        i += 1;
+    }
+    Aggregate { sums, missing }
+}
+
+// What eight sums and a word of missing numbers hold, in every place.
+pub fn of_words(sums: [u64; 8], word: u64) -> Aggregate
+    ensures { λ a. ⌜ a ≡ ofWords sums word ⌝ }
+{
+    let mut missing = [0u8; 8];
+    let mut rest = word;
+    let mut i: usize = 0;
+    while i < MOST_CLASSES {
         missing[i] = (rest % 256) as u8;
         rest = rest / 256;
         i += 1;

@@ -6,11 +6,14 @@ use mathlib.Core.List.{List}
 use Prim.Native.Nat.{ℕ}
 use Rattle.topology.specs.Answer.{accepted, isAccepted}
 use Rattle.finite.specs.Tests.{unless}
+use Rattle.topology.specs.declared.Verdict.{Verdict}
+use Rattle.topology.specs.Acceptance.{verdictNumbers}
+use Rattle.linemap.specs.Openings.{openingOf}
 use Rattle.schedule.specs.declared.Answer.{Answer}
 use Rattle.schedule.specs.declared.Answer.the-variants.{Made, Refused}
 use Rattle.schedule.specs.Outcome.{stepOutcomeOf}
 use Rattle.capi.specs.Answers.{packed, called, replacing}
-use Rattle.capi.specs.Steps.{stepCall}
+use Rattle.capi.specs.Steps.{freshCall, stepCall}
 use Rattle.capi.specs.internal.Values.{answerNumbers}
 
 -- a call with these numbers, on what it was lent and what it found
@@ -23,6 +26,9 @@ module _ {Lent : Type 0} (numbers : List ℕ) (before after : Lent) where
 
   pub accepted-replaces : (found : Lent) → accepted ≡ numbers → found ≡ after → called 0 found ≡ replacing numbers before after
   accepted-replaces found is same = ap (λ (x : Lent). called 0 x) same ∙ ap (λ (l : List ℕ). replacing l before after) is
+
+pub verdict-call : {Net : Type 0} (v : Verdict) (n : ℕ) (net : Net) → n ≡ packed (verdictNumbers v) → called n net ≡ freshCall (openingOf v net)
+verdict-call v n net number = ap (λ (x : ℕ). called x net) number
 
 pub answer-call : {Net : Type 0} (a : Answer) (n : ℕ) (net : Net) → n ≡ packed (answerNumbers a) → called n net ≡ stepCall (stepOutcomeOf a net)
 answer-call (Made s) n net number = ap (λ (x : ℕ). called x net) number

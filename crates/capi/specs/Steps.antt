@@ -6,11 +6,11 @@ use Rattle.linemap.specs.Openings.{Opening}
 use Rattle.schedule.specs.declared.Step.{Step}
 use Rattle.schedule.specs.Outcome.{StepOutcome, RunOutcome}
 use Rattle.capi.specs.declared.steps.Run.{Run}
-use Rattle.capi.specs.Answers.{packed, Called, called, replacing}
+use Rattle.capi.specs.Answers.{packed, Called, called}
 
 -- "a map handed over goes 3, 7 to 10" (Causes and numbers), else the fresh net
-abbrev pub freshCall : {Net : Type 0} → Opening Net → Net → Called ℕ Net
-freshCall opened before = replacing (opened .numbers) before (opened .net)
+abbrev pub freshCall : {Net : Type 0} → Opening Net → Called ℕ Net
+freshCall o = called (packed (o .numbers)) (o .net)
 
 -- the values that an accepted step or draw comes with: the step made
 abbrev pub stepValues : List Step → List ℕ

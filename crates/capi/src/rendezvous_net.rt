@@ -1,131 +1,64 @@
-// Stations that meet: a net lent to each call, which alters it there.
+// Stations that meet: the words of a net are lent to each call, which alters them there.
 use crate::steps::Run;
 use linemap::Map;
-use rendezvous::Net;
-use rendezvous::Stepped;
 use schedule::Step;
-use topology::Verdict;
 ghost use mathlib.Core.Path.{_≡_};
 ghost use Rattle.schedule.specs.Listing;
-ghost use Rattle.schedule.specs.Outcome.{stepOutcomeOf};
 ghost use Rattle.schedule.specs.Draws.{stepOn, drawOn, runOn};
+ghost use Rattle.stations.specs.Words.{spareIn};
+ghost use Rattle.rendezvous.specs.Net.{netIn};
 ghost use Rattle.rendezvous.specs.Rules.{rules};
 ghost use Rattle.rendezvous.specs.Opening.{rendezvousOpening};
 ghost use Rattle.capi.specs.Answers.{called};
 ghost use Rattle.capi.specs.Steps.{freshCall, stepCall, runCall};
 
-// What a call answers, as one number, and the net after it.
-pub struct Answered {
-    pub answer: u64,
-    pub net: Net,
-}
-
-// What a run answers, and the net after it.
-pub struct RunAnswered {
-    pub answer: Run,
-    pub net: Net,
-}
-
-fn from_stepped(stepped: Stepped) -> Answered
-    ensures { λ r. ⌜ called (r .answer) (r .net) ≡ stepCall (stepOutcomeOf (stepped .answer) (stepped .net)) ⌝ }
+// The fresh net of an accepted map.
+#[no_mangle]
+pub extern "C" fn tally_rendezvous_fresh(net: &mut [u64; 705], map: Map) -> u64
+    ensures call { λ r. ⌜ called r (netIn (now (net .exit))) ≡ freshCall (rendezvousOpening map (netIn (now (net .entry)))) ⌝ }
+    ensures spare { λ _. ⌜ spareIn (now (net .exit)) ≡ spareIn (now (net .entry)) ⌝ }
 {
-    let answer = stepped.answer;
-    let after = stepped.net;
-    Answered {
-        answer: crate::steps::number(answer),
-        net: after,
-    }
+    let answer = rendezvous::fresh(map, net);
+    crate::map::verdict(answer)
 }
 
-fn fresh(before: Net, map: Map) -> Answered
-    ensures { λ r. ⌜ called (r .answer) (r .net) ≡ freshCall (rendezvousOpening map) before ⌝ }
-{
-    let opened = rendezvous::fresh(map);
-    let verdict = opened.verdict;
-    if let Verdict::Refused(why) = verdict {
-        return Answered {
-            answer: crate::map::fault(why),
-            net: before,
-        };
-    }
-    let after = opened.net;
-    Answered {
-        answer: 0,
-        net: after,
-    }
-}
-
-fn step(net: Net, kind: u8, sender: u8, receiver: u8) -> Answered
-    ensures { λ r. ⌜ called (r .answer) (r .net) ≡ stepCall (stepOn rules net (Listing.step kind sender receiver)) ⌝ }
+// One step.
+#[no_mangle]
+pub extern "C" fn tally_rendezvous_step(
+    net: &mut [u64; 705],
+    kind: u8,
+    sender: u8,
+    receiver: u8,
+) -> u64
+    ensures call { λ r. ⌜ called r (netIn (now (net .exit))) ≡ stepCall (stepOn rules (netIn (now (net .entry))) (Listing.step kind sender receiver)) ⌝ }
+    ensures spare { λ _. ⌜ spareIn (now (net .exit)) ≡ spareIn (now (net .entry)) ⌝ }
 {
     let step = Step {
         kind: kind,
         sender: sender,
         receiver: receiver,
     };
-    let stepped = rendezvous::step(net, step);
-    from_stepped(stepped)
-}
-
-fn draw(net: Net, d: u16) -> Answered
-    ensures { λ r. ⌜ called (r .answer) (r .net) ≡ stepCall (drawOn rules net d) ⌝ }
-{
-    let stepped = rendezvous::draw(net, d);
-    from_stepped(stepped)
-}
-
-fn run(net: Net, draws: &[u16]) -> RunAnswered
-    ensures { λ r. ⌜ called (r .answer) (r .net) ≡ runCall (runOn rules net (now (draws .entry))) ⌝ }
-{
-    let ran = rendezvous::run(net, draws);
-    let answer = ran.answer;
-    let after = ran.net;
-    RunAnswered {
-        answer: crate::steps::run_answer(answer, ran.steps, ran.at_rest),
-        net: after,
-    }
-}
-
-// The fresh net of an accepted map.
-#[no_mangle]
-pub extern "C" fn tally_rendezvous_fresh(net: &mut Net, map: Map) -> u64
-    ensures { λ r. ⌜ called r (now (net .exit)) ≡ freshCall (rendezvousOpening map) (now (net .entry)) ⌝ }
-{
-    let before = *net;
-    let after = fresh(before, map);
-    *net = after.net;
-    after.answer
-}
-
-// One step.
-#[no_mangle]
-pub extern "C" fn tally_rendezvous_step(net: &mut Net, kind: u8, sender: u8, receiver: u8) -> u64
-    ensures { λ r. ⌜ called r (now (net .exit)) ≡ stepCall (stepOn rules (now (net .entry)) (Listing.step kind sender receiver)) ⌝ }
-{
-    let before = *net;
-    let after = step(before, kind, sender, receiver);
-    *net = after.net;
-    after.answer
+    let answer = rendezvous::step(net, step);
+    crate::steps::number(answer)
 }
 
 // The step that a draw picks.
 #[no_mangle]
-pub extern "C" fn tally_rendezvous_draw(net: &mut Net, d: u16) -> u64
-    ensures { λ r. ⌜ called r (now (net .exit)) ≡ stepCall (drawOn rules (now (net .entry)) d) ⌝ }
+pub extern "C" fn tally_rendezvous_draw(net: &mut [u64; 705], d: u16) -> u64
+    ensures call { λ r. ⌜ called r (netIn (now (net .exit))) ≡ stepCall (drawOn rules (netIn (now (net .entry))) d) ⌝ }
+    ensures spare { λ _. ⌜ spareIn (now (net .exit)) ≡ spareIn (now (net .entry)) ⌝ }
 {
-    let before = *net;
-    let after = draw(before, d);
-    *net = after.net;
-    after.answer
+    let answer = rendezvous::draw(net, d);
+    crate::steps::number(answer)
 }
 
 // The steps that a list of draws picks.
 #[no_mangle]
-pub extern "C" fn tally_rendezvous_run(net: &mut Net, draws: &[u16]) -> Run
-    ensures { λ r. ⌜ called r (now (net .exit)) ≡ runCall (runOn rules (now (net .entry)) (now (draws .entry))) ⌝ }
+pub extern "C" fn tally_rendezvous_run(net: &mut [u64; 705], draws: &[u16]) -> Run
+    ensures call { λ r. ⌜ called r (netIn (now (net .exit))) ≡ runCall (runOn rules (netIn (now (net .entry))) (now (draws .entry))) ⌝ }
+    ensures spare { λ _. ⌜ spareIn (now (net .exit)) ≡ spareIn (now (net .entry)) ⌝ }
 {
-    let before = *net;
-    let after = run(before, draws);
-    *net = after.net;
-    after.answer
+    let ran = rendezvous::run(net, draws);
+    let answer = ran.answer;
+    crate::steps::run_answer(answer, ran.steps, ran.at_rest)
 }

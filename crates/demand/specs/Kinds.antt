@@ -14,7 +14,6 @@ use Rattle.schedule.specs.declared.Step.{Step}
 use Rattle.schedule.specs.Rules.{Rules}
 use Rattle.schedule.specs.Listing.{select}
 use Rattle.schedule.specs.Calls.{Call, callsMade, callsNet}
-use Rattle.rendezvous.specs.declared.Net as rendezvous
 use Rattle.rendezvous.specs.Net as rendezvous-net
 use Rattle.rendezvous.specs.Rules as rendezvous-rules
 use Rattle.rendezvous.specs.Opening as rendezvous-opening
@@ -32,7 +31,7 @@ pub record Kind : Type 1 where
 -- "Stations that meet"
 abbrev pub meeting : Kind
 meeting =
-    record { Net = rendezvous.Net; rules = rendezvous-rules.rules; fresh = rendezvous-opening.freshOn; station = rendezvous-net.station }
+    record { Net = rendezvous-net.Net; rules = rendezvous-rules.rules; fresh = rendezvous-opening.freshOn; station = rendezvous-net.station }
 
 -- "Stations with mail"
 abbrev pub mailing : Kind

@@ -11,7 +11,7 @@ use Rattle.linemap.specs.Stored.{bodyOf, storedOf}
 use Rattle.schedule.specs.declared.Step.{Step}
 use Rattle.schedule.specs.Listing.{step}
 use Rattle.schedule.specs.Draws.{stepOn, drawOn, runOn}
-use Rattle.rendezvous.specs.declared.Net.{Net}
+use Rattle.rendezvous.specs.Net.{Net}
 use Rattle.rendezvous.specs.Figure.{report}
 use Rattle.rendezvous.specs.Rules.{rules}
 use Rattle.rendezvous.specs.Opening.{freshOn}

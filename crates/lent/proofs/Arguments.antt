@@ -9,7 +9,7 @@ use mir.Syntax.{Ty, Local, local, valueLocal, Opd, copy, place, Step as PStep}
 use mir.Val.{Val}
 use base.Logic as logic
 use base.Logic.{SProp, ent, wand, emp, id⊢, monoR, allE, apply∗}
-use base.Fml.{Share, Fml, ftrue, fsep, fat, froom, fdies}
+use base.Fml.{Share, ftrue, fat, froom, fdies}
 use prog.Wp.{Heap, Env, Spot, spotOf, walk}
 use ghost.Atoms.{Atoms, sem}
 use contract.Lifetimes.{Lfts}
@@ -19,7 +19,7 @@ use types.Run.{Reads, Walks, Finds, Opds, stop, load, init, forget, alloc1, pass
 use types.Part.{Part, whole}
 use denote.RattleType.{RattleType, Denots, Valss, flat, owns}
 use denote.Laws.{Are, Ises, Spells, valss, Tellss}
-use denote.Exit.{yes, left}
+use denote.Exit.{yes, left, see}
 use denote.Signature.{Slot, plain, typesAt}
 use denote.Steps.{nothing}
 use denote.Triple.End.{Fins, Outs, outs, lastsOf, all}
@@ -79,7 +79,7 @@ module _ {m : ℕ} where
     written = N .written;
     reaches = N .reaches;
     own = N .row (κs .1) .own;
-    exit = N .exit (κs .1);
+    exit = N .row (κs .1) .exit;
     coded = N .row (κs .1) .coded;
   }
 
@@ -127,12 +127,12 @@ module _ {m : ℕ} where
 
   abbrev pub told : (Ns : List (Argument m)) → Stays (lents Ns) (all yes (lents Ns))
   told [] = tt
-  told (N ∷ Ns) = (record { fit = λ κs x f. Unit {0}; has = λ κs x f vs. left (N .exit (κs .1) yes) x f }, told Ns)
+  told (N ∷ Ns) = (record { fit = λ κs x f. Unit {0}; has = λ κs x f vs. left (N .row (κs .1) .exit yes) x f }, told Ns)
 
   abbrev pub lasts : (Ns : List (Argument m)) (κs : Lfts (suc m)) (a : Values Ns κs) → Lasts Ns (κs .1) (handed Ns κs a)
       → Fins κs (lents Ns) (all yes (lents Ns)) a
   lasts [] κs a ws = tt
-  lasts (N ∷ Ns) κs a ws = (N .ends (κs .1) .last (a .0) (ws .0), lasts Ns κs (a .1) (ws .1))
+  lasts (N ∷ Ns) κs a ws = (ws .0, lasts Ns κs (a .1) (ws .1))
 
   pub lasts-fit : (Ns : List (Argument m)) (κs : Lfts (suc m)) (a : Values Ns κs) (ws : Lasts Ns (κs .1) (handed Ns κs a))
       → fitsOf κs (lents Ns) (all yes (lents Ns)) (told Ns) a (lasts Ns κs a ws)
@@ -148,12 +148,12 @@ module _ {m : ℕ} where
 
   abbrev pub seens : (Ns : List (Argument m)) (κs : Lfts (suc m)) → Outs κs (lents Ns) (all yes (lents Ns)) → Seens Ns (κs .1)
   seens [] κs e = tt
-  seens (N ∷ Ns) κs e = (N .ends (κs .1) .seen (e .0), seens Ns κs (e .1))
+  seens (N ∷ Ns) κs e = (e .0, seens Ns κs (e .1))
 
   pub same-seens : (Ns : List (Argument m)) (κs : Lfts (suc m)) (a : Values Ns κs) (ws : Lasts Ns (κs .1) (handed Ns κs a))
       → sees Ns (κs .1) (handed Ns κs a) ws ≡ seens Ns κs (outs κs (lents Ns) (all yes (lents Ns)) a (lasts Ns κs a ws))
   same-seens [] κs a ws = refl
-  same-seens (N ∷ Ns) κs a ws = λ i. (N .ends (κs .1) .same-seen (a .0) (ws .0) i, same-seens Ns κs (a .1) (ws .1) i)
+  same-seens (N ∷ Ns) κs a ws = λ i. (see (N .row (κs .1) .exit yes) (a .0) (ws .0), same-seens Ns κs (a .1) (ws .1) i)
 
   -- ---- their locals
   abbrev pub locals : List (Argument m) → List Local
@@ -191,11 +191,7 @@ module _ {m : ℕ} {M : Type 1} (𝓤 : URA M) (H : Heap 𝓤) (A : Atoms 𝓤) 
       (sem 𝓤 H A (hasOf κs (lents Ns) (all yes (lents Ns)) (told Ns) a (lasts Ns κs a ws) vss))
   had-lasts [] κs a ws vss = id⊢ 𝓤 (emp 𝓤)
   had-lasts (N ∷ Ns) κs a ws vss =
-      let Rest : (ks : Lfts m) (b : Denots (typesAt (values Ns) ks)) → Lasts Ns ks b → Fml = λ ks. lastsOf ks (values Ns) (all yes (values Ns)) in
-      subst (λ (P : Fml). ent 𝓤 (sem 𝓤 H A (fsep (left (N .row (κs .1) .exit yes) (a .0) (ws .0)) (Rest (κs .1) (handed Ns κs (a .1)) (ws .1))))
-      (sem 𝓤 H A (fsep P (hasOf κs (lents Ns) (all yes (lents Ns)) (told Ns) (a .1) (lasts Ns κs (a .1) (ws .1)) (vss .1)))))
-      (N .ends (κs .1) .same-left (a .0) (ws .0))
-      (monoR 𝓤 (sem 𝓤 H A (left (N .row (κs .1) .exit yes) (a .0) (ws .0))) (had-lasts Ns κs (a .1) (ws .1) (vss .1)))
+      monoR 𝓤 (sem 𝓤 H A (left (N .row (κs .1) .exit yes) (a .0) (ws .0))) (had-lasts Ns κs (a .1) (ws .1) (vss .1))
 
   pub all-go : (Ns : List (Argument m)) → AllGo 𝓤 H A W (suc m) (lents Ns) (all yes (lents Ns)) (told Ns)
   all-go [] = tt

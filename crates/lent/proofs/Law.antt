@@ -1,7 +1,7 @@
 -- One law for every lent event: a function of the shape
 --     let before = *s; let event = EVENT(before, x ..); *s = event.after; event.answer
 -- over a function by value that promises something of what it is passed, of what that holds at exit, of the answer and of the record
--- after the event promises the same of the record that it leaves behind the reference. The first of the x may be an array lent mutably.
+-- after the event promises the same of the record that it leaves behind the reference.
 -- The walk is by hand: the borrow is opened, the record copied out and passed on, the event's record stored over it, the borrow closed.
 -- Assumes nothing.
 use mathlib.Core.Path.{_≡_, refl, subst, ap}
@@ -45,20 +45,18 @@ use denote.Triple.Clauses.{Ended, Clauses, closing}
 use denote.Triple.Walked.{says, Stays, stay-ref, walkOf, hasOf, goes-ref, Walks, ends-at, walked, walk-meets}
 use Rattle.lent.proofs.Data.{Record, the-row, the-mir, the-val, Answer, Event, pair-mir, Argument}
 use Rattle.lent.proofs.Arguments.{values, lents, Values, handed, Lasts, Seens, sees, same-seens, told, lasts, lasts-fit, had-lasts}
-use Rattle.lent.proofs.Arguments.{all-go, lent-spells, lent-tells, lent-vals, handed-vals, own-handed, locals, past, frame-of}
-use Rattle.lent.proofs.Arguments.{allocated, passed, freed, local-at, spot-past}
+use Rattle.lent.proofs.Arguments.{all-go, lent-spells, lent-tells, lent-vals, handed-vals, own-handed, locals, past}
+use Rattle.lent.proofs.Arguments.{allocated, passed, freed, copies, operands, local-at, spot-past}
 use Rattle.lent.proofs.Contract as Contract
 use Rattle.lent.proofs.Contract.{Promise}
-use Rattle.lent.proofs.Memory.{Beside, with-memory, reborrowed, memory-of, reborrows, passes-on, reborrow, pass-on}
 
 -- a function by value of m lifetimes, with the types in it, and what it promises
 pub record Lending (m : ℕ) : Type 2 where
   pub lent : Record
   pub answer : Answer
   pub event : Event lent answer
-  pub memory : Beside m
   pub arguments : List (Argument m)
-  pub promise : Promise lent answer (with-memory memory arguments)
+  pub promise : Promise lent answer arguments
 
 -- ---- the function by value and the lent one: signatures, contracts and code
 module _ {m : ℕ} (L : Lending m) where
@@ -66,7 +64,7 @@ module _ {m : ℕ} (L : Lending m) where
   S = L .lent
 
   abbrev Ns : List (Argument m)
-  Ns = with-memory (L .memory) (L .arguments)
+  Ns = L .arguments
 
   abbrev Value : Ended
   Value = record {
@@ -77,27 +75,22 @@ module _ {m : ℕ} (L : Lending m) where
   abbrev Lent : Ended
   Lent = Contract.Lent S (L .answer) Ns
 
-  -- the places of the record's copy, of the event, and of the reference passed on, which stand after the arguments
+  -- the places of the record's copy and of the event, which stand after the arguments
   abbrev copied : ℕ
   copied = suc (suc (past Ns 0))
 
   abbrev happened : ℕ
   happened = suc (suc (past Ns 1))
 
-  abbrev passed-on : ℕ
-  passed-on = suc (suc (past Ns 2))
-
   abbrev after-them : List Local
-  after-them =
-      local (the-mir S) valueLocal ∷ local (pair-mir S (L .answer) (L .event .name)) valueLocal ∷ (locals (reborrowed (L .memory)) ++ [])
+  after-them = local (the-mir S) valueLocal ∷ local (pair-mir S (L .answer) (L .event .name)) valueLocal ∷ []
 
   abbrev statements : Name → Body
   statements g =
       seq (assign (place copied []) (rvOpd (copy (place 1 (deref (the-mir S) ∷ [])))))
-      (reborrows (L .memory) passed-on
-      (seq (call g (copy (place copied []) ∷ passes-on (L .memory) passed-on (L .arguments)) (place happened []))
+      (seq (call g (copy (place copied []) ∷ copies (λ j. suc (suc j)) Ns) (place happened []))
       (seq (assign (place 1 (deref (the-mir S) ∷ [])) (rvOpd (copy (place happened (field 1 ∷ [])))))
-      (seq (assign (place 0 []) (rvOpd (copy (place happened (field 0 ∷ []))))) return))))
+      (seq (assign (place 0 []) (rvOpd (copy (place happened (field 0 ∷ []))))) return)))
 
   abbrev function : Name → Fn
   function g = record {
@@ -206,26 +199,23 @@ module _ {M : Type 1} (𝓤 : URA M) (H : Heap 𝓤) (At : Atoms 𝓤) (W : Give
         split ! $ move ! (2 ∷ []) $ fsplit ! $ fsplit3 ! $ drop ! $ move ! (0 ∷ 1 ∷ 3 ∷ []) $
         -- [what is seen; the borrow; its token; what the arguments own; their tokens]
         enter ! C Λ (function L g) all-vals _ $ alloc1 ! (λ l₀. alloc1 ! (λ l₁. allocated 𝓤 H At W (Ns L) (λ bs. alloc1 ! (λ l₂. alloc1 ! (λ l₃.
-        allocated 𝓤 H At W (reborrowed (L .memory)) (λ cs. alloc0 ! $
-        params1 ! $ pass1 ! (init ! 6 refl (tt, tt)) $ move ! (5 ∷ []) $ passed 𝓤 H At W (Ns L) bs κs a are (pass0 ! $
-        let after : Env 𝓤 H = (the-mir R, l₂) ∷ (pair-mir R (L .answer) (L .event .name), l₃) ∷ (frame-of (reborrowed (L .memory)) cs ++ []) in
+        alloc0 ! $ params1 ! $ pass1 ! (init ! 5 refl (tt, tt)) $ move ! (4 ∷ []) $ passed 𝓤 H At W (Ns L) bs κs a are (pass0 ! $
+        let after : Env 𝓤 H = (the-mir R, l₂) ∷ (pair-mir R (L .answer) (L .event .name), l₃) ∷ [] in
         let past-them : (j : ℕ) → _ = spot-past 𝓤 H At W (Ns L) bs after in
-        move ! (10 ∷ 11 ∷ 12 ∷ 0 ∷ 2 ∷ 3 ∷ 4 ∷ 5 ∷ 6 ∷ 7 ∷ 8 ∷ 9 ∷ 13 ∷ 14 ∷ []) $ opens ! tt (the-row R) {h = h} b o (λ vs.
+        move ! (9 ∷ 10 ∷ 11 ∷ []) $ opens ! tt (the-row R) {h = h} b o (λ vs.
         spelt ! (the-row R) (Is (the-row R)) (shows 𝓤 H At (the-row R)) (LL.vals (R .type) (R .laws))
         (LL.tells (R .type) (R .laws)) fullShare h vs b o $
         move ! (1 ∷ []) $ peeks ! (the-row R) (Is (the-row R)) (shows 𝓤 H At (the-row R)) h (the-val R h ∷ []) (λ was. move ! (1 ∷ 0 ∷ []) $
         -- [the record's cell; what it owns; the open borrow; what is seen; auth; the arguments; room for the event; …; for the copy; …;
-        -- the reference; …; room for the answer; …; what the arguments own; their tokens; room for the reference passed on]
+        -- the reference; …; room for the answer; …; what the arguments own; their tokens]
         assigns ! (of-opd ! (load ! (from ! (hop ! (look ! 10 refl) (stop !))) (look-raw ! 0 refl))) (local-at (past-them 0) (stop !))
         (init ! 8 refl (LL.lawful (R .type) (R .laws) 𝓤 H At W .typed h _ was .0)) $
-        move ! (5 ∷ 16 ∷ []) $ reborrow 𝓤 H At W after (passed-on L) (L .memory) (L .arguments) bs cs κs a refl (past-them 2) (
-        move ! (3 ∷ 15 ∷ 16 ∷ 2 ∷ 4 ∷ 5 ∷ 6 ∷ 0 ∷ 7 ∷ 8 ∷ 9 ∷ 10 ∷ 11 ∷ 12 ∷ 13 ∷ 14 ∷ []) $ use3 W (raw (G 𝓤 H At L .pre to-g)) goes-g $
+        move ! (1 ∷ 14 ∷ 15 ∷ []) $ use3 W (raw (G 𝓤 H At L .pre to-g)) goes-g $
         -- [what the callee asks; the record's cell; the open borrow; what is seen; auth; the arguments; room for the event; …; the copy; …;
-        -- the reference; …; room for the answer; …; the reference passed on]
+        -- the reference; …; room for the answer; …]
         calls-at ! fm (G 𝓤 H At L) met to-g
         (and-then ! (load ! (local-at (past-them 0) (stop !)) (look ! 8 refl))
-        (pass-on 𝓤 H At W after (passed-on L) (L .memory) (L .arguments) bs cs κs a (λ j. refl) (past-them 2)
-        (λ q τ c d v back p. look-in ! 5 p) (λ q τ c d v back p. look-in ! 14 p))) (λ v.
+        (operands 𝓤 H At W (Ns L) bs κs a after (λ j. suc (suc j)) (λ j. refl) (λ q τ c d v back p. look-in ! 5 p))) (λ v.
         use1 W (later (some (λ (r : L .event .row .Denot). (raw Rest ⊛ ‵ (L .event .row .own r (v ∷ [])))
         ⊛ some (λ (ws : Last (the-row R .exit yes) h × Last-ones).
         ‵ (fsep (left (the-row R .exit yes) h (ws .0)) (Leaves (ws .1))) ⊛ raw (fact 𝓤 (Known (ws .1) r)))))) (id⊢ 𝓤 _) $
@@ -233,7 +223,7 @@ module _ {M : Type 1} (𝓤 : URA M) (H : Heap 𝓤) (At : Atoms 𝓤) (W : Give
         heard ! (Known (ws .1) r) (λ known. move ! (1 ∷ []) $ split ! $ move ! (1 ∷ []) $
         peeks ! (L .event .row) (Is (L .event .row)) (shows 𝓤 H At (L .event .row)) r (v ∷ []) (λ is.
         -- [what the event owns; the arguments' tokens; what is left of them; the record's cell; the open borrow; what is seen; auth;
-        -- the arguments; room for the event; …; the copy; …; the reference; …; room for the answer; …; the reference passed on]
+        -- the arguments; room for the event; …; the copy; …; the reference; …; room for the answer; …]
         land ! (local-at (past-them 1) (stop !)) (init ! 8 refl (L .event .typed 𝓤 H At W r v is)) $
         rewrite ! 8 (λ (u : Val). ‵ (fat fullShare (pair-mir R (L .answer) (L .event .name)) l₃ 0 u)) (ap only (L .event .tells r (v ∷ []) is)) refl $
         assigns ! (of-opd ! (load ! (local-at (past-them 1) (fld ! refl (stop !))) (look-in ! 8 (sub ! 1 refl (whole !)))))
@@ -245,12 +235,11 @@ module _ {M : Type 1} (𝓤 : URA M) (H : Heap 𝓤) (At : Atoms 𝓤) (W : Give
         drop ! $ owned ! (the-row R) (Is (the-row R)) (LL.makes (R .type) (R .plain) 𝓤 H At) (L .event .after r) _ (L .event .is-after r _ is) $
         move ! (3 ∷ 0 ∷ 4 ∷ 5 ∷ 6 ∷ []) $ closes ! tt (the-row R) (L .event .after r) (the-val R (L .event .after r) ∷ []) b o $
         -- [what is seen; the borrow; its token; the arguments' tokens; what is left of them; the arguments; the event; …; the copy; …;
-        -- the reference; …; the answer; …; the reference passed on]
+        -- the reference; …; the answer; …]
         returns ! (look ! 12 refl) $ forget ! 6 refl $ forget ! 8 refl $ forget ! 10 refl $ forget ! 12 refl $
         move ! (12 ∷ 13 ∷ []) $ free1 ! $ move ! (10 ∷ 11 ∷ []) $ free1 ! $ move ! (5 ∷ []) $
-        freed 𝓤 H At W (Ns L) bs κs a (move ! (7 ∷ 8 ∷ []) $ free1 ! $ move ! (5 ∷ 6 ∷ []) $ free1 ! $ move ! (5 ∷ []) $
-        freed 𝓤 H At W (reborrowed (L .memory)) cs κs (memory-of (L .memory) (L .arguments) κs a) (free0 ! $
-        by ! (exits (ws .1) r (v ∷ []) is known))))))))))))))))))
+        freed 𝓤 H At W (Ns L) bs κs a (move ! (7 ∷ 8 ∷ []) $ free1 ! $ move ! (5 ∷ 6 ∷ []) $ free1 ! $ free0 ! $
+        by ! (exits (ws .1) r (v ∷ []) is known)))))))))))))))
 
 module _ {M : Type 1} (𝓤 : URA M) (H : Heap 𝓤) (At : Atoms 𝓤) (W : Given 𝓤 H At) {m : ℕ} (L : Lending m) (g : Name) where
   walks : (C : Calls 𝓤 H) (Λ : Loops 𝓤 H) → FmC 𝓤 H (W .laws) C → Triple 𝓤 (C g) (G 𝓤 H At L)

@@ -1,6 +1,5 @@
 pub mod Data
 pub mod Arguments
-pub mod Memory
 pub mod Contract
 pub mod Law
 pub mod Passing

@@ -1,5 +1,5 @@
--- The net of stations with mail: its stations and mailboxes, its form, and the fresh net (document 01, "Stations with mail"). The stations
--- go by value and the words of the mailboxes are lent, so a net is what contracts speak of, and no struct of the code.
+-- The net of stations with mail: its stations and mailboxes, its form, and the fresh net (document 01, "Stations with mail"). The words
+-- of both are lent, so a net is what contracts speak of, and no struct of the code.
 use mathlib.Core.Bool.{Bool, _&&_, _||_}
 use mathlib.Core.List.{List}
 use Prim.Native.Nat.{ℕ}
@@ -10,8 +10,8 @@ use Rattle.aggregate.specs.declared.Config.{Config}
 use Rattle.aggregate.specs.Aggregate.{rootOf}
 use Rattle.station.specs.declared.Station.{Station}
 use Rattle.stations.specs.Stations.{stationAt, areWellFormed, freshStations}
+use Rattle.stations.specs.Words.{configIn, stationsIn}
 use Rattle.mail.specs.Mail.{mailboxBounded, boxAt, broughtAt, startsPosted, noMail}
-use Rattle.mailbox.specs.declared.Line.{Line}
 
 -- what the net was opened with, its 64 places of stations, and the 36,992 words of its mailboxes
 pub record Net : Type 0 where
@@ -19,9 +19,9 @@ pub record Net : Type 0 where
   pub stations : List Station
   pub boxes : List ℕ
 
--- the net of these stations and words
-abbrev pub netOf : Line → List ℕ → Net
-netOf line boxes = record { config = line .config; stations = line .stations; boxes = boxes }
+-- the net in these words, of its stations and of its mailboxes
+abbrev pub netOf : List ℕ → List ℕ → Net
+netOf line boxes = record { config = configIn line; stations = stationsIn line; boxes = boxes }
 
 -- station i of the net
 abbrev pub station : Net → ℕ → Station

@@ -1,4 +1,4 @@
-// Stations with mail (document 01, "Stations with mail"): a message waits in a mailbox until it is delivered. The stations go by value, the
+// Stations with mail (document 01, "Stations with mail"): a message waits in a mailbox until it is delivered. The words of stations and
 // mailboxes are lent, and no call copies them.
 use aggregate::Config;
 use linemap::Map;
@@ -11,21 +11,22 @@ use station::Station;
 use topology::Verdict;
 ghost use mathlib.Core.Path.{_≡_};
 ghost use mathlib.Core.Bool.{true, false, _||_};
-ghost use mathlib.Core.List.{List};
-ghost use Prim.Native.Nat.{ℕ, _<_, _≤_};
+ghost use Prim.Native.Nat.{_<_, _≤_};
 ghost use lib.ListN.{length};
 ghost use lib.Dec.{eqb};
 ghost use Rattle.finite.specs.Below.{allBelow};
-ghost use Rattle.aggregate.specs.Aggregate.{rootOf};
+ghost use Rattle.aggregate.specs.Aggregate.{rootOf, bounded};
 ghost use Rattle.refusal.specs.Refusal.{numberOf};
 ghost use Rattle.refusal.specs.declared.Refusal.the-variants.{OutOfForm};
 ghost use Rattle.linemap.specs.Openings.{openingOf};
-ghost use Rattle.schedule.specs.Outcome.{stepRefused, stepOutcomeOf, runOutcomeOf};
+ghost use Rattle.schedule.specs.Outcome.{stepOutcomeOf, runOutcomeOf};
 ghost use Rattle.schedule.specs.Draws.{stepOn, drawOn, runOn};
 ghost use Rattle.mail.specs.Mail.{mailboxBounded, boxAt, broughtAt};
-ghost use Rattle.mailbox.specs.Net.{netOf, areBounded, wellFormed, freshNet};
-ghost use Rattle.mailbox.specs.Rules.{rules};
-ghost use Rattle.mailbox.specs.Opening;
+ghost use Rattle.stations.specs.Words.{spareIn};
+ghost use Rattle.mailbox.specs.Net.{Net, netOf, station, areBounded, wellFormed, freshNet};
+ghost use Rattle.mailbox.specs.Rules.{delivery, rules};
+ghost use Rattle.mailbox.specs.Opening.{mailboxOpening};
+ghost use Rattle.mailbox.specs.internal.Receivers.{Made};
 
 mod delivery;
 mod listing;
@@ -37,78 +38,45 @@ pub const REPORT: u8 = 2;
 
 const KINDS: u8 = 2;
 
-// Stations 0 to k − 1, and what the net was opened with. Places past k are not used.
-#[repr(C)]
-pub struct Line {
-    pub config: Config,
-    pub stations: [Station; 64],
-}
-
-// What a single step or a draw answers, and the stations after it.
-pub struct Stepped {
-    pub answer: Answer,
-    pub line: Line,
-}
-
-// What a run answers, the steps made, whether the net reached is quiescent (01: at rest), and its stations.
+// What a run answers, the steps made, and whether the net reached is quiescent (01: at rest).
 pub struct Ran {
     pub answer: RunAnswer,
     pub steps: usize,
     pub at_rest: bool,
-    pub line: Line,
-}
-
-// What opening a net on a map answers, and the stations.
-pub struct Opened {
-    pub verdict: Verdict,
-    pub line: Line,
-}
-
-// No stations.
-fn unopened() -> Line
-    ensures { λ r. ⌜ r ≡ Opening.emptyLine ⌝ }
-{
-    let none = stations::blank();
-    let stations = [none; 64];
-    Line {
-        config: Config { k: 0, classes: 0 },
-        stations: stations,
-    }
 }
 
 // The net before the first step: a start from the root in each neighbour's mailbox.
-fn fresh_net(t: Config, counts: [u32; 512], neighbours: [u64; 64], boxes: &mut [u64; 36992]) -> Line
+fn put_fresh(
+    line: &mut [u64; 705],
+    boxes: &mut [u64; 36992],
+    t: Config,
+    counts: [u32; 512],
+    neighbours: [u64; 64],
+)
     requires { ⌜ rootOf t < 64 ⌝ }
-    ensures { λ r. ⌜ netOf r (now (boxes .exit)) ≡ freshNet t counts neighbours ⌝ }
+    ensures net { λ r. ⌜ netOf (now (line .exit)) (now (boxes .exit)) ≡ freshNet t counts neighbours ⌝ }
+    ensures spare { λ r. ⌜ spareIn (now (line .exit)) ≡ spareIn (now (line .entry)) ⌝ }
 {
     let root = aggregate::root(t);
-    let stations = stations::fresh_stations(t, counts, neighbours);
+    stations::put_fresh(line, t, counts, neighbours);
     mail::clear(boxes);
     mail::post_starts(boxes, root, neighbours[root as usize]);
-    Line {
-        config: t,
-        stations: stations,
-    }
 }
 
-// The fresh net of an accepted map; any other opens none, and leaves the mailboxes as they were.
-pub fn fresh(m: Map, boxes: &mut [u64; 36992]) -> Opened
-    ensures { λ r. ⌜ openingOf (r .verdict) (netOf (r .line) (now (boxes .exit))) ≡ Opening.mailboxOpening m (now (boxes .entry)) ⌝ }
+// The fresh net of an accepted map; any other opens none.
+pub fn fresh(m: Map, line: &mut [u64; 705], boxes: &mut [u64; 36992]) -> Verdict
+    ensures opening { λ r. ⌜ openingOf r (netOf (now (line .exit)) (now (boxes .exit))) ≡ mailboxOpening m (netOf (now (line .entry)) (now (boxes .entry))) ⌝ }
+    ensures spare { λ r. ⌜ spareIn (now (line .exit)) ≡ spareIn (now (line .entry)) ⌝ }
 {
     let verdict = linemap::accept(m);
     if let Verdict::Refused(fault) = verdict {
-        return Opened {
-            verdict: Verdict::Refused(fault),
-            line: unopened(),
-        };
+        return Verdict::Refused(fault);
     }
     let t = linemap::config(m);
     let counts = m.counts;
     let neighbours = m.neighbours;
-    Opened {
-        verdict: Verdict::Accepted,
-        line: fresh_net(t, counts, neighbours, boxes),
-    }
+    put_fresh(line, boxes, t, counts, neighbours);
+    Verdict::Accepted
 }
 
 // Whether the posted sums of a sender are bounded. Most senders have posted none; eight receivers to whom no answer waits are passed by one test.
@@ -149,100 +117,95 @@ fn are_bounded(t: Config, boxes: &[u64; 36992]) -> bool
     ok
 }
 
-fn is_well_formed(line: Line, boxes: &[u64; 36992]) -> bool
-    ensures { λ r. ⌜ r ≡ wellFormed (netOf line (now (boxes .entry))) ⌝ }
+fn is_well_formed(line: &[u64; 705], boxes: &[u64; 36992]) -> bool
+    ensures { λ r. ⌜ r ≡ wellFormed (netOf (now (line .entry)) (now (boxes .entry))) ⌝ }
 {
-    let t = line.config;
-    let stations = line.stations;
-    if !stations::are_well_formed(t, stations) {
+    if !stations::are_well_formed(line) {
         return false;
     }
+    let t = stations::config_in(line);
     are_bounded(t, boxes)
 }
 
-// A refusal hands the stations back as they were, whatever the mailboxes hold.
-fn refuse(line: Line, why: Refusal) -> Stepped
-    ensures { λ r. ⌜ ((boxes : List ℕ) → stepOutcomeOf (r .answer) (netOf (r .line) boxes) ≡ stepRefused why (netOf line boxes)) ⌝ }
+// A step that is allowed, made: its receiver after it.
+fn make(line: &mut [u64; 705], boxes: &mut [u64; 36992], t: Config, step: Step) -> Station
+    requires config { ⌜ t ≡ netOf (now line) (now boxes) .config ⌝ }
+    requires places { ⌜ (step .sender < 64) × ((step .receiver < 64) × (station (netOf (now line) (now boxes)) (step .receiver) .parent < 64)) ⌝ }
+    requires sums { ⌜ (bounded (netOf (now line) (now boxes) .config) (station (netOf (now line) (now boxes)) (step .receiver) .held) ≡ true)
+        × (step .kind ≡ delivery
+        → mailboxBounded (netOf (now line) (now boxes) .config) (boxAt (now boxes) (step .sender) (step .receiver))
+        (broughtAt (netOf (now line) (now boxes) .config) (now boxes) (step .sender) (step .receiver)) ≡ true) ⌝ }
+    ensures made { λ r. ⌜ Made (netOf (now (line .entry)) (now (boxes .entry))) step r (netOf (now (line .exit)) (now (boxes .exit))) ⌝ }
+    ensures spare { λ r. ⌜ spareIn (now (line .exit)) ≡ spareIn (now (line .entry)) ⌝ }
 {
-    Stepped {
-        answer: Answer::Refused(why),
-        line: line,
-    }
+    let receiver = stations::load(line, step.receiver);
+    let next = delivery::receive(t, boxes, step, receiver);
+    stations::store(line, step.receiver, next);
+    next
 }
 
 // One step: refused by 11, 12 or 13, or made.
-pub fn step(mut line: Line, boxes: &mut [u64; 36992], step: Step) -> Stepped
-    ensures { λ r. ⌜ stepOutcomeOf (r .answer) (netOf (r .line) (now (boxes .exit))) ≡ stepOn rules (netOf line (now (boxes .entry))) step ⌝ }
+pub fn step(line: &mut [u64; 705], boxes: &mut [u64; 36992], step: Step) -> Answer
+    ensures outcome { λ r. ⌜ stepOutcomeOf r (netOf (now (line .exit)) (now (boxes .exit))) ≡ stepOn rules (netOf (now (line .entry)) (now (boxes .entry))) step ⌝ }
+    ensures spare { λ r. ⌜ spareIn (now (line .exit)) ≡ spareIn (now (line .entry)) ⌝ }
 {
     if !is_well_formed(line, boxes) {
-        return refuse(line, Refusal::OutOfForm);
+        return Answer::Refused(Refusal::OutOfForm);
     }
-    let t = line.config;
+    let t = stations::config_in(line);
     if !delivery::is_in_range(t, step) {
-        return refuse(line, Refusal::OutOfRange);
+        return Answer::Refused(Refusal::OutOfRange);
     }
-    let to = step.receiver as usize;
-    let receiver = line.stations[to];
+    let receiver = stations::load(line, step.receiver);
     let content = mail::box_at(boxes, step.sender, step.receiver);
     if !delivery::may_step(step, receiver, content) {
-        return refuse(line, Refusal::NotAllowed);
+        return Answer::Refused(Refusal::NotAllowed);
     }
-    let next = delivery::receive(t, boxes, step, receiver);
-    line.stations[to] = next;
-    Stepped {
-        answer: Answer::Made(step),
-        line: line,
-    }
+    let next = make(line, boxes, t, step);
+    Answer::Made(step)
 }
 
 // The step that a draw picks, made: refused by 11, or by 14 where no step is allowed.
-pub fn draw(mut line: Line, boxes: &mut [u64; 36992], d: u16) -> Stepped
-    ensures { λ r. ⌜ stepOutcomeOf (r .answer) (netOf (r .line) (now (boxes .exit))) ≡ drawOn rules (netOf line (now (boxes .entry))) d ⌝ }
+pub fn draw(line: &mut [u64; 705], boxes: &mut [u64; 36992], d: u16) -> Answer
+    ensures outcome { λ r. ⌜ stepOutcomeOf r (netOf (now (line .exit)) (now (boxes .exit))) ≡ drawOn rules (netOf (now (line .entry)) (now (boxes .entry))) d ⌝ }
+    ensures spare { λ r. ⌜ spareIn (now (line .exit)) ≡ spareIn (now (line .entry)) ⌝ }
 {
     if !is_well_formed(line, boxes) {
-        return refuse(line, Refusal::OutOfForm);
+        return Answer::Refused(Refusal::OutOfForm);
     }
-    let takers = listing::find_takers(line);
+    let t = stations::config_in(line);
+    let takers = listing::find_takers(line, t.k);
+    let reports = listing::root_reports(line, t);
     let mut rows = [0u64; 256];
-    let sizes = listing::fill_net(&mut rows, line, takers, boxes);
-    let t = line.config;
+    let sizes = listing::fill(&mut rows, t, takers, reports, boxes);
     let drawn = schedule::rows::pick(&rows, sizes, t.k, d);
     let Drawn::Step(step) = drawn else {
-        return refuse(line, Refusal::NothingAllowed);
+        return Answer::Refused(Refusal::NothingAllowed);
     };
-    let to = step.receiver as usize;
-    let receiver = line.stations[to];
-    let next = delivery::receive(t, boxes, step, receiver);
-    line.stations[to] = next;
-    Stepped {
-        answer: Answer::Made(step),
-        line: line,
-    }
+    let next = make(line, boxes, t, step);
+    Answer::Made(step)
 }
 
-// What a run gives that stops in form.
-fn stop(line: Line, steps: usize, rest: bool) -> Ran
-    ensures { λ r. ⌜ ((boxes : List ℕ) → runOutcomeOf (r .answer) (r .steps) (r .«at_rest») (netOf (r .line) boxes)
-        ≡ record { number = 0; steps = steps; rest = rest; net = netOf line boxes }) ⌝ }
+// What a run gives that stops in form, whatever the net.
+fn stop(steps: usize, rest: bool) -> Ran
+    ensures { λ r. ⌜ ((net : Net) → runOutcomeOf (r .answer) (r .steps) (r .«at_rest») net ≡ record { number = 0; steps = steps; rest = rest; net = net }) ⌝ }
 {
     Ran {
         answer: RunAnswer::Stopped,
         steps: steps,
         at_rest: rest,
-        line: line,
     }
 }
 
 // What a run gives that starts outside the form, or has left it.
-fn stop_outside(line: Line, steps: usize) -> Ran
-    ensures { λ r. ⌜ ((boxes : List ℕ) → runOutcomeOf (r .answer) (r .steps) (r .«at_rest») (netOf (r .line) boxes)
-        ≡ record { number = numberOf OutOfForm; steps = steps; rest = false; net = netOf line boxes }) ⌝ }
+fn stop_outside(steps: usize) -> Ran
+    ensures { λ r. ⌜ ((net : Net) → runOutcomeOf (r .answer) (r .steps) (r .«at_rest») net
+        ≡ record { number = numberOf OutOfForm; steps = steps; rest = false; net = net }) ⌝ }
 {
     Ran {
         answer: RunAnswer::Refused(Refusal::OutOfForm),
         steps: steps,
         at_rest: false,
-        line: line,
     }
 }
 
@@ -256,46 +219,37 @@ fn count_words(boxes: &[u64]) -> usize
 // The steps that the draws pick, one after the other, until they are used up, one is refused, or the form is left. The counter is the place
 // among the draws and the number of steps made. The form is tested once: after that, only what the receiver has gathered can break it. Who
 // takes a message is kept, and the rows follow each step.
-pub fn run(mut line: Line, boxes: &mut [u64; 36992], draws: &[u16]) -> Ran
-    ensures { λ r. ⌜ runOutcomeOf (r .answer) (r .steps) (r .«at_rest») (netOf (r .line) (now (boxes .exit))) ≡ runOn rules (netOf line (now (boxes .entry))) (now (draws .entry)) ⌝ }
+pub fn run(line: &mut [u64; 705], boxes: &mut [u64; 36992], draws: &[u16]) -> Ran
+    ensures outcome { λ r. ⌜ runOutcomeOf (r .answer) (r .steps) (r .«at_rest») (netOf (now (line .exit)) (now (boxes .exit))) ≡ runOn rules (netOf (now (line .entry)) (now (boxes .entry))) (now (draws .entry)) ⌝ }
+    ensures spare { λ r. ⌜ spareIn (now (line .exit)) ≡ spareIn (now (line .entry)) ⌝ }
 {
     if !is_well_formed(line, boxes) {
-        return stop_outside(line, 0);
+        return stop_outside(0);
     }
     let words = count_words(boxes);
-    let mut takers = listing::find_takers(line);
+    let first = stations::config_in(line);
+    let mut takers = listing::find_takers(line, first.k);
+    let mut reports = listing::root_reports(line, first);
     let mut rows = [0u64; 256];
-    let mut sizes = listing::fill_net(&mut rows, line, takers, boxes);
+    let mut sizes = listing::fill(&mut rows, first, takers, reports, boxes);
     let mut made: usize = 0;
     while made < draws.len() {
-        let t = line.config;
+        let t = stations::config_in(line);
         let drawn = schedule::rows::pick(&rows, sizes, t.k, draws[made]);
         let Drawn::Step(step) = drawn else {
-            return stop(line, made, true);
+            return stop(made, true);
         };
-        let to = step.receiver as usize;
-        let receiver = line.stations[to];
-        let next = delivery::receive(t, boxes, step, receiver);
-        line.stations[to] = next;
+        let next = make(line, boxes, t, step);
         made += 1;
         let held = next.held;
         if !aggregate::is_bounded(t, held) {
-            return stop_outside(line, made);
+            return stop_outside(made);
         }
-        let root = line.stations[aggregate::root(t) as usize];
+        reports = listing::root_reports(line, t);
         let old = takers;
         takers = listing::retake(old, step.receiver, next);
-        sizes = listing::follow(
-            &mut rows,
-            sizes,
-            t,
-            old,
-            takers,
-            delivery::may_report(root),
-            boxes,
-            step,
-        );
+        sizes = listing::follow(&mut rows, sizes, t, old, takers, reports, boxes, step);
     }
     let c = schedule::rows::total(sizes);
-    stop(line, made, c == 0)
+    stop(made, c == 0)
 }

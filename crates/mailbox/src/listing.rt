@@ -1,5 +1,4 @@
 // The rows of the allowed steps: for each sender and kind, the receivers, as a set.
-use crate::Line;
 use crate::delivery::may_report;
 use aggregate::Config;
 use bitset::bit_if;
@@ -10,6 +9,7 @@ ghost use mathlib.Core.Path.{_≡_};
 ghost use Prim.Native.Nat.{_≤_, _<_};
 ghost use lib.ListN.{length};
 ghost use Rattle.aggregate.specs.Aggregate.{rootOf};
+ghost use Rattle.stations.specs.Words.{stationsIn};
 ghost use Rattle.schedule.specs.internal.Rows.{others};
 ghost use Rattle.mailbox.specs.internal.Receivers as Rules;
 
@@ -31,16 +31,15 @@ fn takes_answer(s: Station) -> bool
     s.state == station::ACTIVE
 }
 
-pub(crate) fn find_takers(line: Line) -> Takers
-    requires { ⌜ line .config .k ≤ 64 ⌝ }
-    ensures { λ r. ⌜ r ≡ Rules.takersOf (line .config .k) (line .stations) ⌝ }
+pub(crate) fn find_takers(line: &[u64; 705], k: u8) -> Takers
+    requires { ⌜ k ≤ 64 ⌝ }
+    ensures { λ r. ⌜ r ≡ Rules.takersOf k (stationsIn (now (line .entry))) ⌝ }
 {
-    let k = line.config.k;
     let mut starts: u64 = 0;
     let mut answers: u64 = 0;
     let mut i: u8 = 0;
     while i < k {
-        let s = line.stations[i as usize];
+        let s = stations::load(line, i);
         starts += bit_if(takes_start(s), i);
         answers += bit_if(takes_answer(s), i);
         i += 1;
@@ -152,17 +151,11 @@ pub(crate) fn follow(
     fill(rows, t, takers, reports, boxes)
 }
 
-// The rows of a net of which it is known who takes a message, stored, and their sizes.
-pub(crate) fn fill_net(
-    rows: &mut [u64; 256],
-    line: Line,
-    takers: Takers,
-    boxes: &[u64; 36992],
-) -> Sizes
-    requires { ⌜ (line .config .k ≤ 64) × (rootOf (line .config) < 64) × (length (now rows) ≡ 256) ⌝ }
-    ensures { λ z. ⌜ Rules.HoldReceivers Rules.all (line .config .k) (rootOf (line .config)) takers (Rules.rootReports (line .config) (line .stations)) (now (boxes .entry)) (now (rows .exit)) z ⌝ }
+// Whether the root may report.
+pub(crate) fn root_reports(line: &[u64; 705], t: Config) -> bool
+    requires { ⌜ rootOf t < 64 ⌝ }
+    ensures { λ r. ⌜ r ≡ Rules.rootReports t (stationsIn (now (line .entry))) ⌝ }
 {
-    let t = line.config;
-    let root = line.stations[aggregate::root(t) as usize];
-    fill(rows, t, takers, may_report(root), boxes)
+    let root = stations::load(line, aggregate::root(t));
+    may_report(root)
 }

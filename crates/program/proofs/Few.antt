@@ -19,7 +19,7 @@ use Rattle.linemap.proofs.Accepted.{map-web}
 use Rattle.schedule.specs.declared.Step.{Step}
 use Rattle.schedule.specs.Draws.{runMade}
 use Rattle.schedule.proofs.Runs.{run-steps}
-use Rattle.rendezvous.specs.declared.Net.{Net}
+use Rattle.rendezvous.specs.Net.{Net}
 use Rattle.rendezvous.specs.Rules.{rules}
 use Rattle.rendezvous.specs.Opening.{freshOn}
 use Rattle.order.proofs.RendezvousOrder.{rendezvous-order}

@@ -21,7 +21,7 @@ use Rattle.schedule.specs.Outcome.{stepOutcomeOf}
 use Rattle.schedule.specs.Draws.{drawOn, runMade}
 use Rattle.schedule.proofs.Made.{drawn-step, drawn-formed}
 use Rattle.schedule.proofs.Answers.{answer-made, answer-refused, allowed-parts}
-use Rattle.rendezvous.specs.declared.Net.{Net}
+use Rattle.rendezvous.specs.Net.{Net}
 use Rattle.rendezvous.specs.Rules.{rules}
 use Rattle.rendezvous.specs.Opening as meet
 use Rattle.rendezvous.proofs.Laws.{places}
@@ -95,11 +95,11 @@ pub record Stands (s : List ℕ) (draws : ℕ) (l : List ℕ) (l′ : List ℕ) 
   pub put : Put l 0 (bytesOf (take made (linesOf s))) l′ end
 
 -- it starts from the fresh net
-pub stands-first : {s l : List ℕ} {m : Map} {draws : ℕ} {net : Net} (verdict : Verdict) → Opens s m draws
-    → openingOf verdict net ≡ meet.rendezvousOpening m
+pub stands-first : {s l : List ℕ} {m : Map} {draws : ℕ} {net : Net} (before : Net) (verdict : Verdict) → Opens s m draws
+    → openingOf verdict net ≡ meet.rendezvousOpening m before
     → Stands s draws l l net 0 0
 unfolding linesOf lotLines linesLeft openingBy flatMap
-stands-first {s} {l} {m} {draws} {net} verdict o e =
+stands-first {s} {l} {m} {draws} {net} before verdict o e =
     let fresh : net ≡ meet.freshOn m = ap (λ (x : Opening Net). x .net) e ∙ rw (o .good) in
     record { few = omega arith; left = rw (o .opens, fresh, zero-add); put = record { bytes = refl; end = refl } }
 

@@ -11,8 +11,7 @@ use Rattle.linemap.specs.declared.Map.{Map}
 use Rattle.linemap.specs.Maps.{configOf, linkCount}
 use Rattle.schedule.specs.declared.Step.{Step}
 use Rattle.schedule.specs.Draws.{runMade}
-use Rattle.rendezvous.specs.declared.Net.{Net}
-use Rattle.rendezvous.specs.Net.{station}
+use Rattle.rendezvous.specs.Net.{Net, station}
 use Rattle.rendezvous.specs.Figure.{wake, pass, answer}
 use Rattle.rendezvous.specs.Rules.{rules}
 use Rattle.rendezvous.specs.Opening.{freshOn}

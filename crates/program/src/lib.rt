@@ -6,7 +6,6 @@ use aggregate::Aggregate;
 use aggregate::Config;
 use linemap::Map;
 use opening::OpenAnswer;
-use rendezvous::Net;
 use schedule::Answer;
 use schedule::Step;
 pub use streams::Input;
@@ -18,6 +17,7 @@ ghost use Prim.Native.Nat.{_+_, _<_, _≤_};
 ghost use lib.ListN.{length};
 ghost use Rattle.topology.specs.Answer.{accepted};
 ghost use Rattle.linemap.specs.Maps.{acceptance, linkCount};
+ghost use Rattle.rendezvous.specs.Net.{netIn};
 ghost use Rattle.text.specs.Text.{lineRoom, over};
 ghost use Rattle.text.specs.internal.Putting.{Put};
 ghost use Rattle.program.specs.Output.{shownText, stepLine, stepShown, plain, closingLine, outputRoom, outputIn};
@@ -65,17 +65,15 @@ fn step_line(step: Step) -> Line
 }
 
 // The line of a step in this net, beside what its sender holds.
-fn show_step(net: Net, step: Step) -> Shown
+fn show_step(net: &[u64; 705], step: Step) -> Shown
     requires { ⌜ step .sender < 64 ⌝ }
-    ensures { λ r. ⌜ r ≡ stepShown net step ⌝ }
+    ensures { λ r. ⌜ r ≡ stepShown (netIn (now (net .entry))) step ⌝ }
 {
-    let at = step.sender as usize;
-    let sender = net.stations[at];
-    let config = net.config;
+    let sender = stations::load(net, step.sender);
     let held = sender.held;
     Shown {
         line: step_line(step),
-        config: config,
+        config: stations::config_in(net),
         held: held,
     }
 }
@@ -122,20 +120,17 @@ fn put_steps(input: &[u8], m: Map, draws: u16, out: &mut [u8]) -> Steps
     requires { ⌜ Roomy (now input) (now out) ⌝ }
     ensures { λ r. ⌜ StepsPut (now (input .entry)) (now (out .entry)) (r .made) (r .end) (now (out .exit)) ⌝ }
 {
-    let opened = rendezvous::fresh(m);
-    let mut net = opened.net;
+    let mut net = [0u64; 705];
+    let opened = rendezvous::fresh(m, &mut net);
     let mut made: u16 = 0;
     let mut end: usize = 0;
     while made < draws {
         let here = net;
-        let drawn = rendezvous::draw(here, opening::draw_at(input, made));
-        let answer = drawn.answer;
+        let answer = rendezvous::draw(&mut net, opening::draw_at(input, made));
         let Answer::Made(step) = answer else {
             break;
         };
-        end = put_line_at(out, end, show_step(here, step));
-        let next = drawn.net;
-        net = next;
+        end = put_line_at(out, end, show_step(&here, step));
         made += 1;
     }
     Steps {

@@ -7,8 +7,9 @@ use libc::STDERR_FILENO;
 use libc::STDIN_FILENO;
 use libc::STDOUT_FILENO;
 ghost use mathlib.Core.Path.{_≡_};
+ghost use Prim.Native.Nat.{_≤_};
 ghost use lib.ListN.{length};
-ghost use Rattle.program.specs.Output.{outputOf};
+ghost use Rattle.program.specs.Output.{outputOf, outputRoom};
 ghost use Rattle.program.specs.Running.{Within, inputRoom};
 
 // One byte more than an input may have, so that a longer one is seen.
@@ -105,6 +106,14 @@ fn write_output(input: &[u8], output: &[u8])
     }
 }
 
+// Lays out the output for this input in `room`, which every output fits into, and writes it.
+fn write_lot(input: &[u8], room: &mut [u8])
+    requires { ⌜ outputRoom ≤ length (now room) ⌝ }
+{
+    let end = put_output(input, room);
+    write_output(input, &room[..end]);
+}
+
 // Reads standard input, and writes its output to standard output. Answers what was read: the rules leave it open, so that nothing but its
 // length is limited. Where a read failed nothing is written.
 pub fn run() -> Input
@@ -114,8 +123,7 @@ pub fn run() -> Input
     let mut output = [0u8; OUTPUT_ROOM];
     let read = read_input(&mut input);
     if let Input::Whole(n) = read {
-        let end = put_output(&input[..n], &mut output);
-        write_output(&input[..n], &output[..end]);
+        write_lot(&input[..n], &mut output);
     }
     read
 }

@@ -21,8 +21,7 @@ use Rattle.station.specs.Process as process
 use Rattle.station.proofs.Formed.{facts, well-formed}
 use Rattle.stations.specs.Stations.{noStation}
 use Rattle.stations.proofs.Laws.{config-valid}
-use Rattle.rendezvous.specs.declared.Net.{Net}
-use Rattle.rendezvous.specs.Net.{station, wellFormed, withTwo}
+use Rattle.rendezvous.specs.Net.{Net, station, wellFormed, withTwo}
 use Rattle.rendezvous.specs.Figure.{wake, pass, answer, report, assigned}
 use Rattle.rendezvous.specs.Together.{processAt, isDone, may, Together, Alone, StepsAreEvents}
 use Rattle.rendezvous.proofs.Guards.{wake-guard, pass-guard, answer-guard, report-guard}

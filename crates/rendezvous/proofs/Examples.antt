@@ -15,8 +15,7 @@ use Rattle.schedule.specs.Listing as listing
 use Rattle.schedule.specs.Outcome.{stepMade, stepRefused}
 use Rattle.schedule.specs.Draws.{stepOn}
 use Rattle.stations.specs.Stations.{blank, areWellFormed, readingAt, freshStation, freshStations}
-use Rattle.rendezvous.specs.declared.Net.{Net}
-use Rattle.rendezvous.specs.Net.{wellFormed, freshNet}
+use Rattle.rendezvous.specs.Net.{Net, wellFormed, freshNet}
 use Rattle.rendezvous.specs.Figure.{wake, report, mayStep, assigned}
 use Rattle.rendezvous.specs.Rules.{rules}
 

@@ -19,8 +19,7 @@ use Rattle.schedule.specs.Rules.{allowed}
 use Rattle.schedule.proofs.Listing.{range-bounds}
 use Rattle.schedule.proofs.Answers.{allowed-parts}
 use Rattle.stations.proofs.Laws.{replaced-kept, replaced-bounded}
-use Rattle.rendezvous.specs.declared.Net.{Net}
-use Rattle.rendezvous.specs.Net.{station, withOne, withTwo, wellFormed}
+use Rattle.rendezvous.specs.Net.{Net, station, withOne, withTwo, wellFormed}
 use Rattle.rendezvous.specs.Figure.{wake, pass, answer, starts, wakes, finishes, mayStep, assigned}
 use Rattle.rendezvous.specs.Rules.{rules}
 use Rattle.rendezvous.proofs.Guards.{wake-guard}

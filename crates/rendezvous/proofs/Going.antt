@@ -17,6 +17,7 @@ use Rattle.finite.proofs.Cases.{by-bool}
 use Rattle.bitset.specs.Set.{put}
 use Rattle.bitset.proofs.Selected.{set-lt}
 use Rattle.bitset.proofs.Unions.{put-set}
+use Rattle.aggregate.specs.declared.Config.{Config}
 use Rattle.aggregate.specs.Aggregate.{bounded, joinable}
 use Rattle.station.specs.declared.Station.{Station}
 use Rattle.station.specs.Events.{asleep, active}
@@ -32,13 +33,13 @@ use Rattle.schedule.specs.Draws.{runOn}
 use Rattle.schedule.proofs.Answers.{allowed-parts}
 use Rattle.schedule.proofs.Listing.{range-bounds, Bounds}
 use Rattle.schedule.proofs.Drawing.{drawn-allowed}
-use Rattle.schedule.proofs.Running.{Running, goes-on-with, unformed-with}
-use Rattle.rendezvous.specs.declared.Net.{Net}
+use Rattle.schedule.proofs.Running.{Running, goes-on-with, unformed-with, at-rest-with}
 use Rattle.rendezvous.specs.declared.listing.States.{States}
 use Rattle.rendezvous.specs.declared.listing.Sends.{Sends}
-use Rattle.rendezvous.specs.Net.{station, wellFormed, withOne, withTwo}
+use Rattle.rendezvous.specs.Net.{Net, station, wellFormed, withOne, withTwo}
 use Rattle.rendezvous.specs.Figure.{wake, pass, answer, assigned}
-use Rattle.rendezvous.specs.internal.Receivers.{inState, statesOf, restated, keptAt, takersIn, Agree, Renewed, AreSends, HoldTakers, HoldSome, sentBy, receivedBy}
+use Rattle.rendezvous.specs.internal.Receivers.{inState, statesOf, restated, sendsOf, keptAt, withSends, takersIn}
+use Rattle.rendezvous.specs.internal.Receivers.{Agree, Renewed, AreSends, HoldTakers, HoldSome, Made, sentBy, receivedBy}
 use Rattle.rendezvous.specs.Rules.{rules}
 use Rattle.rendezvous.proofs.Laws.{k-most, sums-joinable}
 use Rattle.rendezvous.proofs.Places.{two-receiver}
@@ -46,6 +47,11 @@ use Rattle.rendezvous.proofs.RowSets.{rows-filled}
 use Rattle.rendezvous.proofs.Kept.{kept-one}
 use Rattle.rendezvous.proofs.Following.{states-agree, kept-others}
 use Rattle.rendezvous.proofs.FormAfter.{next-formed}
+
+-- rows of the k that the code has read
+pub held-told : {t u : Config} {states : States} {sent : ℕ → Sends} {rows : List ℕ} {z : Sizes} → t ≡ u
+    → HoldTakers (t .k) states sent rows z → HoldTakers (u .k) states sent rows z
+held-told {states = states} {sent = sent} {rows = rows} {z = z} e h = subst (λ (v : Config). HoldTakers (v .k) states sent rows z) e h
 
 -- what is known of a net while a run goes on
 pub record Known (net : Net) (kept : List ℕ) (states : States) : Type 0 where
@@ -117,67 +123,78 @@ module _ {first : Net} {draws : List ℕ} {here : Net} {states : States} {kept r
   small : (kind s : ℕ) → 1 ≤ kind → kind ≤ 4 → s < here .config .k → rowAt rows kind s < 2 ^ 64
   small kind s h l m = rw (filled .are .row kind s h l m) (lt-of-lt-of-le (set-lt (here .config .k) _) (pow-mono few))
 
-  module _ (h : made < length draws) {p : Drawn} (e : p ≡ pickedBySize rows z (here .config .k) (getD draws made 0)) {s : Step} (q : p ≡ drawn.Step s) where
-    may : allowed rules here s ≡ true
-    may = drawn-allowed rules here filled _ e q
+  -- t is what the code has read of the net, and p what it has drawn
+  module _ {t : Config} (told : t ≡ here .config) (h : made < length draws) {p : Drawn} (e : p ≡ pickedBySize rows z (t .k) (getD draws made 0)) where
+    picks : p ≡ pickedBySize rows z (here .config .k) (getD draws made 0)
+    picks = e ∙ ap (λ (u : Config). pickedBySize rows z (u .k) (getD draws made 0)) told
 
-    bounds : Bounds rules here s
-    bounds = range-bounds rules here s (allowed-parts rules here s may .0)
+    pub rests : p ≡ drawn.Nothing → runOn rules first draws ≡ record { number = 0; steps = made; rest = true; net = here }
+    rests q = at-rest-with rules (G .running) filled h picks q
 
-    pub both-low : (s .sender < here .config .k) × (s .receiver < here .config .k)
-    both-low = (bounds .sender-low, bounds .receiver-low)
+    module _ {s : Step} (q : p ≡ drawn.Step s) where
+      may : allowed rules here s ≡ true
+      may = drawn-allowed rules here filled _ picks q
 
-    pub sender-low : s .sender < 64
-    sender-low = omega (arith, few, bounds .sender-low)
+      bounds : Bounds rules here s
+      bounds = range-bounds rules here s (allowed-parts rules here s may .0)
 
-    pub receiver-low : s .receiver < 64
-    receiver-low = omega (arith, few, bounds .receiver-low)
+      pub both-low : (t .k ≤ 64) × ((s .sender < t .k) × (s .receiver < t .k))
+      both-low = rw told (few, (bounds .sender-low, bounds .receiver-low))
 
-    pub joins : joinable (here .config) (station here (s .receiver) .held) (station here (s .sender) .held) ≡ true
-    joins = sums-joinable here formed s (allowed-parts rules here s may .0)
+      pub sender-low : s .sender < 64
+      sender-low = omega (arith, few, bounds .sender-low)
 
-    module _ {sender receiver : Station} (u : sender ≡ sentBy (s .kind) (s .receiver) (station here (s .sender)))
-        (v : receiver ≡ receivedBy (here .config) (s .kind) (s .sender) (station here (s .sender)) (station here (s .receiver))) where
-      abbrev next : Net
-      next = withTwo here (s .sender) sender (s .receiver) receiver
+      pub receiver-low : s .receiver < 64
+      receiver-low = omega (arith, few, bounds .receiver-low)
 
-      after : next ≡ rules .apply here s
-      after = made-is here s may u v
+      pub joins : joinable (here .config) (station here (s .receiver) .held) (station here (s .sender) .held) ≡ true
+      joins = sums-joinable here formed s (allowed-parts rules here s may .0)
 
-      decides : wellFormed next ≡ bounded (here .config) (receiver .held)
-      decides =
-          next-formed here s formed may after
-          ∙ ap (λ (x : Station). bounded (here .config) (x .held))
-          (two-receiver here (s .sender) (s .receiver) sender receiver (omega (arith, G .known .full, receiver-low)))
+      module _ {sender receiver : Station} {next : Net} (M : Made here s sender receiver next) where
+        after : next ≡ rules .apply here s
+        after = M .after-is ∙ made-is here s may (M .sender-is) (M .receiver-is)
 
-      pub ends-outside : bounded (here .config) (receiver .held) ≡ false
-          → runOn rules first draws ≡ record { number = numberOf OutOfForm; steps = made + 1; rest = false; net = next }
-      ends-outside b = unformed-with rules (G .running) filled h e q after (decides ∙ b)
+        decides : wellFormed next ≡ bounded t (receiver .held)
+        decides =
+            next-formed here s formed may after
+            ∙ ap₂ (λ (u : Config) (x : Station). bounded u (x .held)) (ap (λ (n : Net). n .config) (M .after-is) ∙ sym told)
+            (ap (λ (n : Net). station n (s .receiver)) (M .after-is)
+            ∙ two-receiver here (s .sender) (s .receiver) sender receiver (omega (arith, G .known .full, receiver-low)))
 
-      module _ {kept₁ kept₂ : List ℕ} {states₁ states₂ : States} (x : Renewed (here .config) (s .sender) sender kept states kept₁ states₁)
-          (y : Renewed (here .config) (s .receiver) receiver kept₁ states₁ kept₂ states₂) where
-        pub agree : Agree s states states₂
-        agree = states-agree s sender-low receiver-low (here .config) sender receiver kept states x y
+        pub ends-outside : bounded t (receiver .held) ≡ false
+            → runOn rules first draws ≡ record { number = numberOf OutOfForm; steps = made + 1; rest = false; net = next }
+        ends-outside b = unformed-with rules (G .running) filled h picks q after (decides ∙ b)
 
-        pub others-hold : HoldSome (others s) (here .config .k) states (keptAt kept₂) rows z
-        others-hold =
-            let same = kept-others s sender-low receiver-low (here .config) sender receiver kept states x y (G .known .sends-are .sized) in
-            record {
-              hold = record {
-                sized = G .held .sized;
-                small = small;
-                row = λ kind i g l m o. G .held .row kind i g l m
-                    ∙ ap (λ (w : Sends). takersIn kind w states) (sym (same i (omega (arith, m, few)) o));
-                sizes = G .held .sizes;
-              };
-            }
+        module _ {kept₁ kept₂ : List ℕ} {states₁ states₂ : States} (x : Renewed t (s .sender) sender kept states kept₁ states₁)
+            (y : Renewed t (s .receiver) receiver kept₁ states₁ kept₂ states₂) where
+          pub agree : Agree s states states₂
+          agree = states-agree s sender-low receiver-low t sender receiver kept states x y
 
-        pub goes-further : bounded (here .config) (receiver .held) ≡ true → {rows₂ : List ℕ} {z₂ : Sizes}
-            → HoldTakers (here .config .k) states₂ (keptAt kept₂) rows₂ z₂ → Going first draws next states₂ kept₂ rows₂ z₂ (made + 1)
-        goes-further b H =
-            let one = known-one here few (G .known .full) (s .sender) (bounds .sender-low) sender (G .known) x in
-            record {
-              running = goes-on-with rules (G .running) filled h e q after (decides ∙ b);
-              known = known-one (withOne here (s .sender) sender) few (one .full) (s .receiver) (bounds .receiver-low) receiver one y;
-              held = H;
-            }
+          pub others-hold : HoldSome (others s) (t .k) states (keptAt kept₂) rows z
+          others-hold =
+              let same = kept-others s sender-low receiver-low t sender receiver kept states x y (G .known .sends-are .sized) in
+              let hold : HoldSome (others s) (here .config .k) states (keptAt kept₂) rows z = record {
+                hold = record {
+                  sized = G .held .sized;
+                  small = small;
+                  row = λ kind i g l m o. G .held .row kind i g l m
+                      ∙ ap (λ (w : Sends). takersIn kind w states) (sym (same i (omega (arith, m, few)) o));
+                  sizes = G .held .sizes;
+                };
+              } in
+              subst (λ (u : Config). HoldSome (others s) (u .k) states (keptAt kept₂) rows z) (sym told) hold
+
+          pub goes-further : bounded t (receiver .held) ≡ true → {rows₂ : List ℕ} {z₂ : Sizes}
+              → HoldTakers (t .k) states₂ (keptAt kept₂) rows₂ z₂ → Going first draws next states₂ kept₂ rows₂ z₂ (made + 1)
+          goes-further b H =
+              let first-in : Renewed (here .config) (s .sender) sender kept states kept₁ states₁ =
+              (x .0 ∙ ap (λ (u : Config). withSends kept (s .sender) (sendsOf u (s .sender) sender)) told, x .1) in
+              let then-in : Renewed (here .config) (s .receiver) receiver kept₁ states₁ kept₂ states₂ =
+              (y .0 ∙ ap (λ (u : Config). withSends kept₁ (s .receiver) (sendsOf u (s .receiver) receiver)) told, y .1) in
+              let one = known-one here few (G .known .full) (s .sender) (bounds .sender-low) sender (G .known) first-in in
+              let two = known-one (withOne here (s .sender) sender) few (one .full) (s .receiver) (bounds .receiver-low) receiver one then-in in
+              record {
+                running = goes-on-with rules (G .running) filled h picks q after (decides ∙ b);
+                known = subst (λ (n : Net). Known n kept₂ states₂) (sym (M .after-is)) two;
+                held = held-told (told ∙ sym (ap (λ (n : Net). n .config) (M .after-is))) H;
+              }

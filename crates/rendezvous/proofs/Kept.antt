@@ -8,9 +8,8 @@ use lib.ListN.{length, getD, set, length-set}
 use lib.Seq.{getD-set-same, getD-set-other}
 use Rattle.finite.proofs.Cases.{by-eq}
 use Rattle.station.specs.declared.Station.{Station}
-use Rattle.rendezvous.specs.declared.Net.{Net}
 use Rattle.rendezvous.specs.declared.listing.Sends.{Sends}
-use Rattle.rendezvous.specs.Net.{station, withOne}
+use Rattle.rendezvous.specs.Net.{Net, station, withOne}
 use Rattle.rendezvous.specs.internal.Receivers.{sendsOf, sentIn, keptAt, withSends, AreSends}
 
 -- what a station may send, of its three words

@@ -10,8 +10,7 @@ use Rattle.schedule.specs.declared.Step.{Step}
 use Rattle.schedule.specs.Rules.{inRange}
 use Rattle.schedule.proofs.Listing.{range-bounds}
 use Rattle.stations.proofs.Laws.{config-valid, well-formed-at, held-bounded-at}
-use Rattle.rendezvous.specs.declared.Net.{Net}
-use Rattle.rendezvous.specs.Net.{station, wellFormed}
+use Rattle.rendezvous.specs.Net.{Net, station, wellFormed}
 use Rattle.rendezvous.specs.Rules.{rules}
 
 module _ (net : Net) (f : wellFormed net ≡ true) where

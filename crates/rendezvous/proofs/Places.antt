@@ -15,8 +15,7 @@ use Rattle.schedule.specs.Calls.{Call, callsMade, callsNet}
 use Rattle.schedule.proofs.Listing.{range-bounds, listed-allowed}
 use Rattle.schedule.proofs.Made.{Listed, calls-make}
 use Rattle.stations.specs.Stations.{noStation}
-use Rattle.rendezvous.specs.declared.Net.{Net}
-use Rattle.rendezvous.specs.Net.{station, withTwo}
+use Rattle.rendezvous.specs.Net.{Net, station, withTwo}
 use Rattle.rendezvous.specs.Figure.{wake, pass, answer, assigned}
 use Rattle.rendezvous.specs.Rules.{rules}
 use Rattle.schedule.proofs.Answers.{allowed-parts}

@@ -24,10 +24,9 @@ use Rattle.schedule.specs.Listing.{step}
 use Rattle.schedule.specs.internal.Rows.{Filled}
 use Rattle.schedule.proofs.Listing.{allowed-low}
 use Rattle.schedule.proofs.RowLists.{report-row}
-use Rattle.rendezvous.specs.declared.Net.{Net}
 use Rattle.rendezvous.specs.declared.listing.States.{States}
 use Rattle.rendezvous.specs.declared.listing.Sends.{Sends}
-use Rattle.rendezvous.specs.Net.{station}
+use Rattle.rendezvous.specs.Net.{Net, station}
 use Rattle.rendezvous.specs.Figure.{wake, pass, answer, report}
 use Rattle.rendezvous.specs.Rules.{rules}
 use Rattle.rendezvous.specs.internal.Receivers.{inState, statesOf, startable, answerable, sendsOf, sentIn, takersIn, HoldTakers}

@@ -1,4 +1,5 @@
--- The net of stations that meet: its stations, its form and the fresh net (document 01, "Stations that meet").
+-- The net of stations that meet: its stations, its form and the fresh net (document 01, "Stations that meet"). Its words are lent, so a net is
+-- what contracts speak of, and no struct of the code.
 use mathlib.Core.Bool.{Bool}
 use mathlib.Core.List.{List}
 use Prim.Native.Nat.{ℕ}
@@ -6,7 +7,16 @@ use lib.ListN.{set}
 use Rattle.aggregate.specs.declared.Config.{Config}
 use Rattle.station.specs.declared.Station.{Station}
 use Rattle.stations.specs.Stations.{stationAt, areWellFormed, freshStations}
-use Rattle.rendezvous.specs.declared.Net.{Net}
+use Rattle.stations.specs.Words.{configIn, stationsIn}
+
+-- what the net was opened with, and its 64 places of stations
+pub record Net : Type 0 where
+  pub config : Config
+  pub stations : List Station
+
+-- the net in these words
+abbrev pub netIn : List ℕ → Net
+netIn words = record { config = configIn words; stations = stationsIn words }
 
 -- station i of the net
 abbrev pub station : Net → ℕ → Station

@@ -4,8 +4,7 @@ use Prim.Native.Nat.{ℕ}
 use Rattle.aggregate.specs.Aggregate.{rootOf}
 use Rattle.schedule.specs.declared.Step.{Step}
 use Rattle.schedule.specs.Rules.{Rules}
-use Rattle.rendezvous.specs.declared.Net.{Net}
-use Rattle.rendezvous.specs.Net.{station, wellFormed}
+use Rattle.rendezvous.specs.Net.{Net, station, wellFormed}
 use Rattle.rendezvous.specs.Figure.{report, mayStep, assigned}
 
 -- the kind of net: "kind not 1 to 4", and what else `schedule` asks of one

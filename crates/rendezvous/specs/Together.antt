@@ -9,8 +9,7 @@ use Rattle.aggregate.specs.Aggregate.{rootOf}
 use Rattle.station.specs.declared.Process.{Process}
 use Rattle.station.specs.Events.{asleep, active}
 use Rattle.station.specs.Process as process
-use Rattle.rendezvous.specs.declared.Net.{Net}
-use Rattle.rendezvous.specs.Net.{station, wellFormed}
+use Rattle.rendezvous.specs.Net.{Net, station, wellFormed}
 use Rattle.rendezvous.specs.Figure.{wake, pass, answer, report, mayStep, assigned}
 
 -- station i of the net, by itself

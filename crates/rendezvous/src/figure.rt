@@ -10,10 +10,13 @@ use schedule::Step;
 use station::Station;
 ghost use mathlib.Core.Path.{_≡_};
 ghost use mathlib.Core.Bool.{true};
+ghost use Prim.Native.Nat.{_<_};
 ghost use Rattle.aggregate.specs.Aggregate.{rootOf, joinable};
 ghost use Rattle.schedule.specs.Rules.{stepInRange};
+ghost use Rattle.stations.specs.Words.{spareIn};
+ghost use Rattle.rendezvous.specs.Net.{netIn, station};
 ghost use Rattle.rendezvous.specs.Figure.{report, mayStep};
-ghost use Rattle.rendezvous.specs.internal.Receivers.{sentBy, receivedBy};
+ghost use Rattle.rendezvous.specs.internal.Receivers.{sentBy, receivedBy, Made};
 
 pub(crate) fn is_in_range(t: Config, step: Step) -> bool
     ensures { λ r. ⌜ r ≡ stepInRange 4 report (t .k) (rootOf t) step ⌝ }
@@ -73,5 +76,31 @@ pub(crate) fn receive(t: Config, step: Step, s: Station, r: Station) -> Station
             r.answer_taken(t, given)
         }
         _ => r.ended(),
+    }
+}
+
+// The two stations of a step, after it.
+pub(crate) struct Moved {
+    pub(crate) sender: Station,
+    pub(crate) receiver: Station,
+}
+
+// A step that is allowed, made.
+pub(crate) fn make(net: &mut [u64; 705], t: Config, step: Step) -> Moved
+    requires places { ⌜ (step .sender < 64) × (step .receiver < 64) ⌝ }
+    requires config { ⌜ t ≡ netIn (now net) .config ⌝ }
+    requires joins { ⌜ joinable (netIn (now net) .config) (station (netIn (now net)) (step .receiver) .held) (station (netIn (now net)) (step .sender) .held) ≡ true ⌝ }
+    ensures made { λ r. ⌜ Made (netIn (now (net .entry))) step (r .sender) (r .receiver) (netIn (now (net .exit))) ⌝ }
+    ensures spare { λ r. ⌜ spareIn (now (net .exit)) ≡ spareIn (now (net .entry)) ⌝ }
+{
+    let sender = stations::load(net, step.sender);
+    let receiver = stations::load(net, step.receiver);
+    let s = send(step, sender);
+    let r = receive(t, step, sender, receiver);
+    stations::store(net, step.sender, s);
+    stations::store(net, step.receiver, r);
+    Moved {
+        sender: s,
+        receiver: r,
     }
 }

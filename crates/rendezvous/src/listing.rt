@@ -1,5 +1,4 @@
 // What each station may send, kept while a run goes on, and the rows of the allowed steps: for each sender and kind, the receivers, as a set.
-use crate::Net;
 use aggregate::Config;
 use bitset::bit_if;
 use schedule::Step;
@@ -10,6 +9,7 @@ ghost use mathlib.Core.Bool.{false};
 ghost use Prim.Native.Nat.{_≤_, _<_};
 ghost use lib.ListN.{length};
 ghost use Rattle.schedule.specs.internal.Rows.{sizesWithout, others};
+ghost use Rattle.rendezvous.specs.Net.{netIn};
 ghost use Rattle.rendezvous.specs.internal.Receivers.{restated, sendsOf, keptAt, withSends};
 ghost use Rattle.rendezvous.specs.internal.Receivers.{Agree, Renewed, Surveyed, HasRows, HoldTakers, HoldSome};
 
@@ -114,13 +114,12 @@ fn unformed() -> Findings
     }
 }
 
-// One pass over all stations: the form is tested, the states are found, and what each may send is kept. A function that reads the stations
-// copies them, so this is one.
-pub(crate) fn survey(net: Net, kept: &mut [u64; 192]) -> Findings
+// One pass over all stations: the form is tested, the states are found, and what each may send is kept.
+pub(crate) fn survey(net: &[u64; 705], kept: &mut [u64; 192]) -> Findings
     requires { ⌜ length (now kept) ≡ 192 ⌝ }
-    ensures { λ r. ⌜ Surveyed net (r .formed) (r .states) (now (kept .exit)) ⌝ }
+    ensures { λ r. ⌜ Surveyed (netIn (now (net .entry))) (r .formed) (r .states) (now (kept .exit)) ⌝ }
 {
-    let t = net.config;
+    let t = stations::config_in(net);
     if !aggregate::is_valid(t) {
         return unformed();
     }
@@ -129,7 +128,7 @@ pub(crate) fn survey(net: Net, kept: &mut [u64; 192]) -> Findings
     let mut active: u64 = 0;
     let mut j: u8 = 0;
     while j < k {
-        let s = net.stations[j as usize];
+        let s = stations::load(net, j);
         if !s.is_well_formed(t, j) {
             return unformed();
         }

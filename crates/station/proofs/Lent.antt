@@ -8,7 +8,6 @@ use denote.Signature.{typesAt}
 use denote.Struct.Laws as LL
 use Rattle.lent.proofs.Data.{Record, Answer, struct-answer, Event, Argument, struct}
 use Rattle.lent.proofs.Arguments.{values}
-use Rattle.lent.proofs.Memory.{alone}
 use Rattle.lent.proofs.Law.{Lending}
 use Rattle.aggregate.proofs.Aggregate as Sum
 use Rattle.aggregate.proofs.Aggregate.Laws as Sum′
@@ -49,7 +48,6 @@ lending Ns rule = record {
   lent = process;
   answer = reply;
   event = event;
-  memory = alone;
   arguments = Ns;
   promise = λ κs a e p r q. eventOutcomeOf r q ≡ rule κs a p;
 }

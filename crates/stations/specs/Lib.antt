@@ -1,1 +1,3 @@
 pub mod Stations
+pub mod Words
+pub mod internal

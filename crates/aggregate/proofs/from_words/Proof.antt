@@ -1,13 +1,11 @@
 -- `aggregate::from_words` meets its contract: class by class, its word and the next byte are stored over zeros. Assumes nothing.
-use mathlib.Core.Path.{_≡_, refl, sym, ap, _∙_}
-use mathlib.Core.List.{List, _∷_}
-use Prim.Native.Nat.{ℕ, suc, _+_, _-_, _/_, _%_, _^_, _≤_, _<_, min}
+use mathlib.Core.Path.{_≡_, refl, sym}
+use Prim.Native.Nat.{_-_, _%_, _^_, _≤_, min}
 use lib.ListN.{getD, drop, replicate, getD-replicate}
-use lib.Seq.{getD-drop, drop-drop}
 use Rattle.finite.specs.Numbers.{bytes}
 use Rattle.aggregate.specs.internal.Joining.{pair}
 use Rattle.aggregate.specs.Aggregate.{zeroCell, fromWords}
-use Rattle.aggregate.proofs.Places.{Storing, storing-none, storing-more, storing-all}
+use Rattle.aggregate.proofs.Places.{Storing, storing-none, storing-more, storing-all, next-byte}
 use native.Mathlib.Omega.{arith}
 use Rattle.aggregate.proofs.from_words.Statement.{statement}
 use Rattle.aggregate.proofs.from_words.Tie as tie
@@ -20,17 +18,6 @@ Inv-loop word words c sums₀ missing₀ rest₀ i₀ sums missing rest i =
 
 abbrev μ-loop : tie.MeasureT-loop
 μ-loop word words c sums₀ missing₀ rest₀ i₀ sums missing rest i = c - i
-
--- the next byte, and those after it
-next-byte : (l : List ℕ) (i x : ℕ) → i < 8 → drop i l ≡ bytes (8 - i) x → (getD l i 0 ≡ x % 2 ^ 8) × (drop (i + 1) l ≡ bytes (8 - (i + 1)) (x / 2 ^ 8))
-unfolding bytes
-next-byte l i x h e =
-    let more : 8 - i ≡ suc (8 - (i + 1)) = omega arith in
-    let here : drop i l ≡ x % 2 ^ 8 ∷ bytes (8 - (i + 1)) (x / 2 ^ 8) = e ∙ ap (λ (n : ℕ). bytes n x) more in
-    let at : i ≡ i + 0 = omega arith in (
-      ap (λ (j : ℕ). getD l j 0) at ∙ sym (getD-drop i l 0 0) ∙ ap (λ (m : List ℕ). getD m 0 0) here,
-      sym (drop-drop 1 i l) ∙ ap (drop 1) here,
-    )
 
 count-used-requires : tie.Need-count-used-requires Inv-loop μ-loop
 count-used-requires c κs = tt

@@ -30,7 +30,7 @@ store-sums-requires c κs = search needs
 
 returns : tie.Need-returns
 unfolding withAnswer
-returns c = rw (c .store-sums .ensures, c .before .before .missing-word .ensures, c .before .before .before .put-waiting .ensures)
+returns c = rw (c .store-sums .ensures, c .before .before .missing-word .ensures .0, c .before .before .before .put-waiting .ensures)
 
 pub store-answer-spec : {M : Type 1} → statement M
 store-answer-spec =

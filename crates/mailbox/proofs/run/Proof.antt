@@ -1,39 +1,46 @@
 -- `mailbox::run` meets its contract. Invariant (`Going`): the net reached is well-formed, and the run is one from it, after the steps made, by
 -- the draws that are left; who takes a message is known, and the rows are the net's. Assumes nothing.
-use mathlib.Core.Path.{_≡_, sym, _∙_}
+use mathlib.Core.Path.{_≡_, refl, sym, _∙_, ap, subst}
 use mathlib.Core.Bool.{true}
-use Prim.Native.Nat.{ℕ, _-_, _<_}
+use Prim.Native.Nat.{ℕ, _-_, _≤_, _<_}
 use native.Mathlib.Omega.{arith}
-use lib.ListN.{length, length-map, length-replicate}
-use borrow.Author.Needs.{needs}
+use lib.ListN.{length, length-replicate}
 use borrow.Author.Tests.{not-true, not-false}
+use Rattle.aggregate.specs.declared.Config.{Config}
+use Rattle.aggregate.specs.Aggregate.{rootOf}
 use Rattle.schedule.proofs.Running.{run-starts, barred-with}
-use Rattle.mailbox.specs.Net.{netOf, wellFormed}
+use Rattle.stations.specs.Words.{spareIn}
+use Rattle.stations.proofs.Words.{length-stations}
+use Rattle.mailbox.specs.Net.{Net, netOf, wellFormed}
 use Rattle.mailbox.specs.Rules.{rules}
+use Rattle.mailbox.specs.internal.Receivers.{takersOf, all}
 use Rattle.mailbox.proofs.Laws.{k-most, root-placed}
-use Rattle.mailbox.proofs.Going.{Going, few, root-low, both-low, ends-used, ends-at-rest, receiver-low, receives, others-held, goes-further, ends-outside}
+use Rattle.mailbox.proofs.Going.{Going, held-told, root-low, both-low, ends-used, ends-at-rest, receives, others-held, goes-further, ends-outside}
+use borrow.Author.Needs.{needs}
 use Rattle.mailbox.proofs.run.Statement.{statement}
 use Rattle.mailbox.proofs.run.Tie as tie
 
 abbrev Inv-loop : tie.InvT-loop
-Inv-loop boxes₀ draws line₀ words takers₀ rows₀ sizes₀ made₀ boxes line takers rows sizes made = Going line₀ boxes₀ draws line boxes takers rows sizes made
+Inv-loop line₀ boxes₀ draws words takers₀ reports₀ rows₀ sizes₀ made₀ line boxes takers reports rows sizes made =
+    Going (netOf line₀ boxes₀) draws (netOf line boxes) takers rows sizes made × (spareIn line ≡ spareIn line₀)
 
 abbrev μ-loop : tie.MeasureT-loop
-μ-loop boxes₀ draws line₀ words takers₀ rows₀ sizes₀ made₀ boxes line takers rows sizes made = length draws - made
+μ-loop line₀ boxes₀ draws words takers₀ reports₀ rows₀ sizes₀ made₀ line boxes takers reports rows sizes made = length draws - made
+
+-- the net that the call was lent
+abbrev netAt : tie.Start Inv-loop μ-loop → Net
+netAt c = netOf (c .args .line .now) (c .args .boxes .now)
 
 -- past the test of the form
-formed : (c : tie.Else1 Inv-loop μ-loop) → let a = c .before .before .before .before .args in wellFormed (netOf (a .t1) (a .boxes .now)) ≡ true
+formed : (c : tie.Else1 Inv-loop μ-loop) → wellFormed (netAt (c .before .before .before .before .before)) ≡ true
 formed c = sym (c .before .is-well-formed .ensures) ∙ not-false _ (c .if1 .left)
 
-full : (c : tie.Start Inv-loop μ-loop) → length (c .args .t1 .stations) ≡ 64
-full c = sym (length-map (c .args .t1 .stations) _) ∙ c .good .0 .1 .1 .1 .0 .1 .0 .1
+few : (c : tie.Else1 Inv-loop μ-loop) {t : Config} → t ≡ netAt (c .before .before .before .before .before) .config → t .k ≤ 64
+few c e = subst (λ (t : Config). t .k ≤ 64) (sym e) (k-most (netAt (c .before .before .before .before .before)) (formed c))
 
--- the receiver of the step that was drawn has a place
-low : (c : tie.After-known-told Inv-loop μ-loop) → c .before .drawn .given .0 .0 .receiver < 64
-low c =
-    let pick = c .before .before .before in
-    let test = pick .before .before .before .before in
-    receiver-low (test .before .loop .inv) (test .loop-test .taken) (pick .pick .ensures) (c .before .drawn .given .1)
+-- the words are counted
+long : (c : tie.After-count-words Inv-loop μ-loop) → length (c .before .before .before .before .before .before .before .before .args .boxes .now) ≡ 36992
+long c = omega arith
 
 is-well-formed-requires : tie.Need-is-well-formed-requires Inv-loop μ-loop
 is-well-formed-requires c κs = search needs
@@ -43,44 +50,52 @@ stop-outside-requires c κs = search needs
 
 returns : tie.Need-returns Inv-loop μ-loop
 returns c =
-    let a = c .before .before .before .before .before .args in
-    c .stop-outside .ensures _
-    ∙ sym (barred-with rules (netOf (a .t1) (a .boxes .now)) (a .draws .now) (sym (c .before .before .is-well-formed .ensures) ∙ not-true _ (c .before .if1 .taken)))
+    let start = c .before .before .before .before .before .before in
+    let net = netAt start in
+    (c .stop-outside .ensures net ∙ sym (barred-with rules net (start .args .draws .now) (sym (c .before .before .is-well-formed .ensures) ∙ not-true _ (c .before .if1 .taken))), refl)
 
 count-words-requires : tie.Need-count-words-requires Inv-loop μ-loop
 count-words-requires c κs = search needs
 
-find-takers-requires : tie.Need-find-takers-requires Inv-loop μ-loop
-find-takers-requires c κs =
-    let past = c .before .before .before in
-    let a = past .before .before .before .before .args in
-    k-most (netOf (a .t1) (a .boxes .now)) (formed past)
+config-in-requires : tie.Need-config-in-requires Inv-loop μ-loop
+config-in-requires c κs = search needs
 
-fill-net-requires : tie.Need-fill-net-requires Inv-loop μ-loop
-fill-net-requires c κs =
-    let past = c .before .before .before .before .before .before in
-    let a = past .before .before .before .before .args in
-    let net = netOf (a .t1) (a .boxes .now) in
-    (k-most net (formed past), root-placed net (formed past), length-replicate {A = ℕ} 256 0)
+find-takers-requires : tie.Need-find-takers-requires Inv-loop μ-loop
+find-takers-requires c κs = few (c .before .before .before .before .before .before) (c .before .config-in .ensures)
+
+root-reports-requires : tie.Need-root-reports-requires Inv-loop μ-loop
+root-reports-requires c κs =
+    let past = c .before .before .before .before .before .before .before .before in
+    subst (λ (t : Config). rootOf t < 64) (sym (c .before .before .before .config-in .ensures)) (root-placed (netAt (past .before .before .before .before .before)) (formed past))
+
+fill-requires : tie.Need-fill-requires Inv-loop μ-loop
+fill-requires c κs = (few (c .before .before .before .before .before .before .before .before .before .before .before) (c .before .before .before .before .before .before .config-in .ensures), length-replicate {A = ℕ} 256 0)
 
 loop-holds : tie.Need-loop-holds Inv-loop μ-loop
 loop-holds c =
-    let past = c .before .before .before .before .before .before .before in
-    let start = past .before .before .before .before in
-    let a = start .args in
-    record {
-      running = run-starts rules (netOf (a .t1) (a .boxes .now)) (a .draws .now) (formed past);
-      long = search needs;
-      full = full start;
-      known = c .before .before .before .find-takers .ensures;
-      holds = c .fill-net .ensures;
-    }
+    let past = c .before .before .before .before .before .before .before .before .before .before .before .before in
+    let start = past .before .before .before .before .before in
+    let net = netAt start in
+    let config = c .before .before .before .before .before .before .before .config-in .ensures in (
+      record {
+        running = run-starts rules net (start .args .draws .now) (formed past);
+        long = long (c .before .before .before .before .before .before .before .before .before);
+        full = length-stations (start .args .line .now);
+        known = c .before .before .before .before .before .find-takers .ensures ∙ ap (λ (t : Config). takersOf (t .k) (net .stations)) config;
+        holds = held-told all (c .before .before .before .before .before .before .before .config-in .result) (c .before .before .before .before .before .find-takers .result) (c .before .before .before .root-reports .result) (net .stations) (net .boxes)
+            config (c .before .before .before .root-reports .ensures) (c .fill .ensures);
+      },
+      refl,
+    )
+
+config-in-requires-2 : tie.Need-config-in-requires-2 Inv-loop μ-loop
+config-in-requires-2 c κs = search needs
 
 slice-aggregate-pick : tie.Need-slice-aggregate-pick Inv-loop μ-loop
-slice-aggregate-pick c = sym (c .before .before .before .loop .inv .holds .sized)
+slice-aggregate-pick c = sym (c .before .before .before .before .loop .inv .0 .holds .sized)
 
 mul-pick : tie.Need-mul-pick Inv-loop μ-loop
-mul-pick c = search needs
+mul-pick c = omega (arith, c .before .before .before .loop-test .taken, c .before .before .before .before .before .before .before .before .before .before .before .before .before .before .before .before .before .before .before .before .before .before .good .1 .1 .0 .1)
 
 shared-slice-read-pick : tie.Need-shared-slice-read-pick Inv-loop μ-loop
 shared-slice-read-pick c = search needs
@@ -100,36 +115,21 @@ stop-requires c κs = search needs
 returns-2 : tie.Need-returns-2 Inv-loop μ-loop
 returns-2 c =
     let pick = c .before .before .before in
-    let test = pick .before .before .before .before in
-    c .stop .ensures _
-    ∙ sym (ends-at-rest (test .before .loop .inv) (test .loop-test .taken) (pick .pick .ensures) (c .before .enum-told .given .1))
+    let test = pick .before .before .before .before .before in
+    let l = test .before .loop in (
+      c .stop .ensures (netOf (l .line) (l .boxes)) ∙ sym (ends-at-rest (l .inv .0) (pick .before .before .before .config-in2 .ensures) (test .loop-test .taken) (pick .pick .ensures) (c .before .enum-told .given .1)),
+      l .inv .1,
+    )
 
-cast-to : tie.Need-cast-to Inv-loop μ-loop
-cast-to c = search needs
-
-mul-receiver : tie.Need-mul-receiver Inv-loop μ-loop
-mul-receiver c = search needs
-
-element-copy-out-receiver : tie.Need-element-copy-out-receiver Inv-loop μ-loop
-element-copy-out-receiver c = low (c .before)
-
-receive-requires : tie.Need-receive-requires Inv-loop μ-loop
-receive-requires c κs =
-    let told = c .before .before .before in
+make-requires : tie.Need-make-requires Inv-loop μ-loop
+make-requires c κs =
+    let told = c .before .before in
     let pick = told .before .before .before in
-    let test = pick .before .before .before .before in
-    receives (test .before .loop .inv) (test .loop-test .taken) (pick .pick .ensures) (told .before .drawn .given .1)
-
-mul-next : tie.Need-mul-next Inv-loop μ-loop
-mul-next c = search needs
-
-element-set-from-next : tie.Need-element-set-from-next Inv-loop μ-loop
-element-set-from-next c = low (c .before .before .before .before)
+    let test = pick .before .before .before .before .before in
+    (pick .before .before .before .config-in2 .ensures, receives (test .before .loop .inv .0) (pick .before .before .before .config-in2 .ensures) (test .loop-test .taken) (pick .pick .ensures) (told .before .drawn .given .1))
 
 add-made : tie.Need-add-made Inv-loop μ-loop
-add-made c =
-    let test = c .before .before .before .before .before .before .before .before .before .before .before in
-    omega (arith, test .loop-test .taken, test .before .before .before .before .before .before .before .before .before .before .before .before .before .good .1 .1 .0 .0)
+add-made c = omega (arith, c .before .before .before .before .before .before .before .before .before .before .before .loop-test .taken, c .before .before .before .before .before .before .before .before .before .before .before .before .before .before .before .before .before .before .before .before .before .before .before .before .before .before .before .before .before .before .good .1 .1 .0 .0)
 
 is-bounded-requires : tie.Need-is-bounded-requires Inv-loop μ-loop
 is-bounded-requires c κs = search needs
@@ -139,59 +139,52 @@ stop-outside-requires-2 c κs = search needs
 
 returns-3 : tie.Need-returns-3 Inv-loop μ-loop
 returns-3 c =
-    let received = c .before .before .before .before in
-    let told = received .before .before .before .before in
+    let make = c .before .before .before .before in
+    let told = make .before .before .before in
     let pick = told .before .before .before in
-    let test = pick .before .before .before .before in
-    c .stop-outside2 .ensures _
-    ∙ sym (ends-outside (test .before .loop .inv) (test .loop-test .taken) (pick .pick .ensures) (told .before .drawn .given .1)
-    (received .receive .ensures .0) (received .receive .ensures .1) (sym (c .before .before .is-bounded .ensures) ∙ not-true _ (c .before .if2 .taken)))
+    let test = pick .before .before .before .before .before in
+    let l = test .before .loop in (
+      c .stop-outside2 .ensures _
+          ∙ sym (ends-outside (l .inv .0) (pick .before .before .before .config-in2 .ensures) (test .loop-test .taken) (pick .pick .ensures) (told .before .drawn .given .1)
+          (make .make .ensures .0) (sym (c .before .before .is-bounded .ensures) ∙ not-true _ (c .before .if2 .taken))),
+      make .make .ensures .1 ∙ l .inv .1,
+    )
 
-root-requires : tie.Need-root-requires Inv-loop μ-loop
-root-requires c κs = search needs
-
-cast-root : tie.Need-cast-root Inv-loop μ-loop
-cast-root c = search needs
-
-mul-root : tie.Need-mul-root Inv-loop μ-loop
-mul-root c = search needs
-
-element-copy-out-root : tie.Need-element-copy-out-root Inv-loop μ-loop
-element-copy-out-root c = rw (c .root .ensures) (root-low (c .before .before .before .before .before .before .before .before .before .before .before .before .before .before .before .before .loop .inv))
+root-reports-requires-2 : tie.Need-root-reports-requires-2 Inv-loop μ-loop
+root-reports-requires-2 c κs =
+    let pick = c .before .before .before .before .before .before .before .before .before .before in
+    root-low (pick .before .before .before .before .before .before .loop .inv .0) (pick .before .before .before .config-in2 .ensures)
 
 retake-requires : tie.Need-retake-requires Inv-loop μ-loop
 retake-requires c κs = search needs
 
-may-report-requires : tie.Need-may-report-requires Inv-loop μ-loop
-may-report-requires c κs = search needs
-
 follow-requires : tie.Need-follow-requires Inv-loop μ-loop
 follow-requires c κs =
-    let received = c .before .before .before .before .before .before .before .before .before in
-    let told = received .before .before .before .before in
+    let make = c .before .before .before .before .before .before .before .before in
+    let told = make .before .before .before in
     let pick = told .before .before .before in
-    let test = pick .before .before .before .before in
-    let inv = test .before .loop .inv in
+    let test = pick .before .before .before .before .before in
+    let inv = test .before .loop .inv .0 in
     let given = told .before .drawn .given .1 in (
-      (few inv, both-low inv (test .loop-test .taken) (pick .pick .ensures) given),
-      rw (c .before .may-report .ensures, c .before .before .before .before .before .root .ensures)
-          (others-held inv (test .loop-test .taken) (pick .pick .ensures) given (received .receive .ensures .0) (received .receive .ensures .1)),
+      both-low inv (pick .before .before .before .config-in2 .ensures) (test .loop-test .taken) (pick .pick .ensures) given,
+      others-held inv (pick .before .before .before .config-in2 .ensures) (test .loop-test .taken) (pick .pick .ensures) given (make .make .ensures .0) (c .before .before .before .root-reports2 .ensures),
     )
 
 loop-less : tie.Need-loop-less Inv-loop μ-loop
-loop-less c =
-    let test = c .before .before .before .before .before .before .before .before .before .before .before .before .before .before .before .before .before .before .before .before .before in
-    omega (arith, test .loop-test .taken)
+loop-less c = omega (arith, c .before .before .before .before .before .before .before .before .before .before .before .before .before .before .before .before .before .before .before .before .loop-test .taken)
 
 loop-again : tie.Need-loop-again Inv-loop μ-loop
 loop-again c =
-    let received = c .before .before .before .before .before .before .before .before .before .before in
-    let told = received .before .before .before .before in
+    let make = c .before .before .before .before .before .before .before .before .before in
+    let told = make .before .before .before in
     let pick = told .before .before .before in
-    let test = pick .before .before .before .before in
-    goes-further (test .before .loop .inv) (test .loop-test .taken) (pick .pick .ensures) (told .before .drawn .given .1)
-    (received .receive .ensures .0) (received .receive .ensures .1) (c .before .before .before .before .retake .ensures) (sym (c .before .before .before .before .before .before .before .before .is-bounded .ensures) ∙ not-false _ (c .before .before .before .before .before .before .before .if2 .left))
-    (rw (c .before .before .may-report .ensures, c .before .before .before .before .before .before .root .ensures) at (c .follow .ensures))
+    let test = pick .before .before .before .before .before in
+    let l = test .before .loop in (
+      goes-further (l .inv .0) (pick .before .before .before .config-in2 .ensures) (test .loop-test .taken) (pick .pick .ensures) (told .before .drawn .given .1)
+          (make .make .ensures .0) (c .before .before .before .before .root-reports2 .ensures) (c .before .before .before .retake .ensures)
+          (sym (c .before .before .before .before .before .before .before .is-bounded .ensures) ∙ not-false _ (c .before .before .before .before .before .before .if2 .left)) (c .follow .ensures),
+      make .make .ensures .1 ∙ l .inv .1,
+    )
 
 total-requires : tie.Need-total-requires Inv-loop μ-loop
 total-requires c κs = search needs
@@ -202,7 +195,10 @@ stop-requires-2 c κs = search needs
 returns-4 : tie.Need-returns-4 Inv-loop μ-loop
 returns-4 c =
     let test = c .before .before in
-    c .stop2 .ensures _ ∙ sym (ends-used (test .before .loop .inv) (test .loop-test .left) (c .before .total .ensures))
+    let l = test .before .loop in (
+      c .stop2 .ensures (netOf (l .line) (l .boxes)) ∙ sym (ends-used (l .inv .0) (test .loop-test .left) (c .before .total .ensures)),
+      l .inv .1,
+    )
 
 pub run-spec : {M : Type 1} → statement M
 run-spec =
@@ -214,9 +210,12 @@ run-spec =
     stop-outside-requires
     returns
     count-words-requires
+    config-in-requires
     find-takers-requires
-    fill-net-requires
+    root-reports-requires
+    fill-requires
     loop-holds
+    config-in-requires-2
     slice-aggregate-pick
     mul-pick
     shared-slice-read-pick
@@ -225,22 +224,13 @@ run-spec =
     enum-told
     stop-requires
     returns-2
-    cast-to
-    mul-receiver
-    element-copy-out-receiver
-    receive-requires
-    mul-next
-    element-set-from-next
+    make-requires
     add-made
     is-bounded-requires
     stop-outside-requires-2
     returns-3
-    root-requires
-    cast-root
-    mul-root
-    element-copy-out-root
+    root-reports-requires-2
     retake-requires
-    may-report-requires
     follow-requires
     loop-less
     loop-again

@@ -1,8 +1,10 @@
 -- A step in its parts, and the receivers of a kind of step from a sender, as sets: what waits, which changes with the sender alone, and who takes
 -- it by the states.
+use mathlib.Core.Path.{_≡_}
 use mathlib.Core.Bool.{Bool, _&&_, cond}
 use mathlib.Core.List.{List}
 use Prim.Native.Nat.{ℕ}
+use lib.ListN.{set}
 use lib.Bits.{bitAnd}
 use lib.Dec.{eqb}
 use Rattle.bitset.specs.Set.{without, union, put, bitIf}
@@ -19,6 +21,7 @@ use Rattle.schedule.specs.internal.Rows.{fourSet, sizesWithout, HoldRows}
 use Rattle.mail.specs.declared.Message.the-variants.{Start}
 use Rattle.mail.specs.Mail.{startsOf, answersOf}
 use Rattle.mailbox.specs.declared.listing.Takers.{Takers}
+use Rattle.mailbox.specs.Net.{Net, station}
 use Rattle.mailbox.specs.Delivery.{takesMessage, mayReport, receiverAfter, boxesDelivered}
 use Rattle.mailbox.specs.Rules.{delivery, report}
 
@@ -30,6 +33,16 @@ receiverMade t boxes s receiver =
 -- the mailboxes after a step
 abbrev pub boxesMade : Config → List ℕ → Step → Station → List ℕ
 boxesMade t boxes s receiver = cond (eqb (s .kind) delivery) (boxesDelivered t boxes (s .sender) (s .receiver) receiver) boxes
+
+-- the receiver of a step after it, and the net with it
+pub record Made (net : Net) (s : Step) (next : Station) (after : Net) : Type 0 where
+  pub next-is : next ≡ receiverMade (net .config) (net .boxes) s (station net (s .receiver))
+  pub after-is : after
+      ≡ record {
+        config = net .config;
+        stations = set (net .stations) (s .receiver) next;
+        boxes = boxesMade (net .config) (net .boxes) s (station net (s .receiver));
+      }
 
 -- whether a station takes a start
 abbrev pub takesStart : Station → Bool

@@ -14,8 +14,7 @@ use Rattle.linemap.specs.RoundTrip.{Fits}
 use Rattle.schedule.specs.Calls.{Call, callsMade, callsNet}
 use Rattle.schedule.specs.internal.Labels.{labelOf}
 use Rattle.stations.specs.Stations.{unfinished}
-use Rattle.rendezvous.specs.declared.Net.{Net}
-use Rattle.rendezvous.specs.Net.{station}
+use Rattle.rendezvous.specs.Net.{Net, station}
 use Rattle.rendezvous.specs.Opening.{freshOn}
 use Rattle.rendezvous.specs.Rules.{rules}
 use Rattle.order.specs.internal.Maps.{Ordered}

@@ -3,12 +3,13 @@
 use Prim.Native.Nat.{_-_}
 use native.Mathlib.Omega.{arith}
 use borrow.Author.Needs.{needs}
+use Rattle.rendezvous.specs.Net.{netIn}
 use Rattle.program.proofs.Standing.{Stands, stands-first, stands-next, same-room, step-room, sender-below, used-up-closes, refused-closes}
 use Rattle.program.proofs.put_steps.Statement.{statement}
 use Rattle.program.proofs.put_steps.Tie as tie
 
 abbrev Inv-loop : tie.InvT-loop
-Inv-loop input draws out₀ net₀ made₀ end₀ out net made end = Stands input draws out₀ out net made end
+Inv-loop input draws out₀ net₀ made₀ end₀ out net made end = Stands input draws out₀ out (netIn net) made end
 
 abbrev μ-loop : tie.MeasureT-loop
 μ-loop input draws out₀ net₀ made₀ end₀ out net made end = draws - made
@@ -17,7 +18,7 @@ fresh-requires : tie.Need-fresh-requires Inv-loop μ-loop
 fresh-requires c κs = search needs
 
 loop-holds : tie.Need-loop-holds Inv-loop μ-loop
-loop-holds c = stands-first (c .before .fresh .result .verdict) (c .before .before .before .before .pre .0) (c .before .fresh .ensures)
+loop-holds c = stands-first _ (c .fresh .result) (c .before .before .before .before .pre .0) (c .fresh .ensures .0)
 
 draw-at-requires : tie.Need-draw-at-requires Inv-loop μ-loop
 draw-at-requires c κs = search needs
@@ -33,20 +34,19 @@ enum-told c = search needs
 
 show-step-requires : tie.Need-show-step-requires Inv-loop μ-loop
 show-step-requires c κs =
-    let d = c .before .before .before .before in
-    sender-below (d .before .before .before .loop .net) (d .before .draw-at .result) _ _ (d .draw .ensures)
-    (c .before .before .answer .given .1)
+    let d = c .before .before .before .before .before in
+    sender-below (netIn (d .before .before .before .before .loop .net)) (d .before .draw-at .result) _ _ (d .draw .ensures .0) (c .before .before .before .answer .given .1)
 
 put-line-at-requires : tie.Need-put-line-at-requires Inv-loop μ-loop
 put-line-at-requires c κs =
-    let d = c .before .before .before .before .before in
-    step-room (d .before .before .before .loop .inv) (d .before .before .loop-test .taken) (d .before .draw-at .ensures) _ _
-    (d .draw .ensures) (c .before .before .before .answer .given .1)
-    (d .before .before .before .before .before .before .before .before .pre .1)
+    let d = c .before .before .before .before .before .before in
+    step-room (d .before .before .before .before .loop .inv) (d .before .before .before .loop-test .taken) (d .before .draw-at .ensures) _ _
+    (d .draw .ensures .0) (c .before .before .before .before .answer .given .1)
+    (d .before .before .before .before .before .before .before .before .before .pre .1)
 
 add-made : tie.Need-add-made Inv-loop μ-loop
 add-made c =
-    let turn = c .before .before .before .before .before .before .before .before .before .before .before in
+    let turn = c .before .before .before .before .before .before .before .before .before .before .before .before in
     let start = turn .before .before .before .before .before .before in
     omega (arith, turn .loop-test .taken, start .fits .draws .fits)
 
@@ -55,10 +55,10 @@ loop-less c = omega arith
 
 loop-again : tie.Need-loop-again Inv-loop μ-loop
 loop-again c =
-    let p = c .before .before .before in
-    let d = p .before .before .before .before .before .before in
-    stands-next (d .before .before .before .loop .inv) (d .before .before .loop-test .taken) (d .before .draw-at .ensures) _ _
-    (d .draw .ensures) (p .before .before .before .before .answer .given .1)
+    let p = c .before .before in
+    let d = p .before .before .before .before .before .before .before in
+    stands-next (d .before .before .before .before .loop .inv) (d .before .before .before .loop-test .taken) (d .before .draw-at .ensures) _ _
+    (d .draw .ensures .0) (p .before .before .before .before .before .answer .given .1)
     (rw (p .before .show-step .ensures) at (p .put-line-at .ensures))
 
 same-length : tie.Need-same-length Inv-loop μ-loop
@@ -68,13 +68,13 @@ returns : tie.Need-returns Inv-loop μ-loop
 returns c = used-up-closes (c .before .loop .inv) (c .loop-test .left)
 
 same-length-2 : tie.Need-same-length-2 Inv-loop μ-loop
-same-length-2 c = same-room (c .before .before .before .before .before .loop .inv)
+same-length-2 c = same-room (c .before .before .before .before .before .before .loop .inv)
 
 returns-2 : tie.Need-returns-2 Inv-loop μ-loop
 returns-2 c =
     let d = c .before .before in
-    refused-closes (d .before .before .before .loop .inv) (d .before .before .loop-test .taken)
-    (d .before .draw-at .ensures) _ _ (d .draw .ensures) (c .enum-told .given .1)
+    refused-closes (d .before .before .before .before .loop .inv) (d .before .before .before .loop-test .taken)
+    (d .before .draw-at .ensures) _ _ (d .draw .ensures .0) (c .enum-told .given .1)
 
 pub put-steps-spec : {M : Type 1} → statement M
 put-steps-spec =

@@ -1,5 +1,5 @@
 -- `rendezvous::fresh` meets its contract: the verdict's numbers are those of the map's acceptance, which decide the net. Assumes nothing.
-use mathlib.Core.Path.{_≡_, sym, _∙_, ap}
+use mathlib.Core.Path.{_≡_, refl, sym, _∙_, ap}
 use borrow.Author.Needs.{needs}
 use Rattle.topology.specs.Acceptance.{faultNumbers, verdictNumbers}
 use Rattle.topology.specs.Answer as answer
@@ -16,16 +16,13 @@ accept-requires c κs = search needs
 enum-known-verdict : tie.Need-enum-known-verdict
 enum-known-verdict c = search needs
 
-unopened-requires : tie.Need-unopened-requires
-unopened-requires c κs = search needs
-
 returns : tie.Need-returns
 unfolding openingBy
 returns c =
-    let fault = c .before .before .verdict .given .0 .0 in
-    let numbers : acceptance (c .before .before .before .before .before .args .m) ≡ faultNumbers fault =
-    sym (c .before .before .before .before .accept .ensures) ∙ ap verdictNumbers (c .before .before .verdict .given .1) in
-    rw (numbers, fault-refuses fault, c .unopened .ensures)
+    let fault = c .before .verdict .given .0 .0 in
+    let numbers : acceptance (c .before .before .before .before .args .m) ≡ faultNumbers fault =
+    sym (c .before .before .before .accept .ensures) ∙ ap verdictNumbers (c .before .verdict .given .1) in
+    (rw (numbers, fault-refuses fault), refl)
 
 enum-told : tie.Need-enum-told
 enum-told c = search needs
@@ -33,15 +30,16 @@ enum-told c = search needs
 config-requires : tie.Need-config-requires
 config-requires c κs = search needs
 
-fresh-stations-requires : tie.Need-fresh-stations-requires
-fresh-stations-requires c κs = search needs
+put-fresh-requires : tie.Need-put-fresh-requires
+put-fresh-requires c κs = search needs
 
 returns-2 : tie.Need-returns-2
 unfolding openingBy freshNet
 returns-2 c =
-    let numbers : acceptance (c .before .before .before .before .before .before .before .args .m) ≡ answer.accepted =
-    sym (c .before .before .before .before .before .before .accept .ensures) ∙ ap verdictNumbers (c .before .before .before .before .enum-told .given .1) in
-    rw (numbers, c .fresh-stations .ensures, c .before .before .before .config .ensures)
+    let numbers : acceptance (c .before .before .before .before .before .before .before .before .args .m) ≡ answer.accepted =
+    sym (c .before .before .before .before .before .before .before .accept .ensures) ∙ ap verdictNumbers (c .before .before .before .before .before .enum-told .given .1) in
+    let put = c .put-fresh .ensures in
+    (rw (numbers, put .0, put .1 .0, c .before .before .before .before .config .ensures), put .1 .1)
 
 pub fresh-spec : {M : Type 1} → statement M
 fresh-spec =
@@ -49,9 +47,8 @@ fresh-spec =
     (tie.spec
     accept-requires
     enum-known-verdict
-    unopened-requires
     returns
     enum-told
     config-requires
-    fresh-stations-requires
+    put-fresh-requires
     returns-2)

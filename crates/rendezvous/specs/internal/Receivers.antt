@@ -16,10 +16,9 @@ use Rattle.schedule.specs.declared.Step.{Step}
 use Rattle.schedule.specs.declared.rows.Sizes.{Sizes}
 use Rattle.schedule.specs.Rows.{rowAt, added}
 use Rattle.schedule.specs.internal.Rows.{fourSet, sizesOf, others, HoldRows}
-use Rattle.rendezvous.specs.declared.Net.{Net}
 use Rattle.rendezvous.specs.declared.listing.States.{States}
 use Rattle.rendezvous.specs.declared.listing.Sends.{Sends}
-use Rattle.rendezvous.specs.Net.{station, wellFormed}
+use Rattle.rendezvous.specs.Net.{Net, station, withTwo, wellFormed}
 use Rattle.rendezvous.specs.Figure.{wake, pass, answer, finishes, starts, wakes, hears, gathers}
 
 -- what a step makes of its sender, to station i
@@ -30,6 +29,12 @@ sentBy kind i s = cond (eqb kind wake || eqb kind pass) (starts i s) (finishes s
 unfoldable pub receivedBy : Config → ℕ → ℕ → Station → Station → Station
 receivedBy t kind j s r =
     cond (eqb kind wake) (wakes j r) (cond (eqb kind pass) (hears r) (cond (eqb kind answer) (gathers t s r) (finishes r)))
+
+-- the two stations of a step after it, and the net with them
+pub record Made (net : Net) (step : Step) (s r : Station) (after : Net) : Type 0 where
+  pub sender-is : s ≡ sentBy (step .kind) (step .receiver) (station net (step .sender))
+  pub receiver-is : r ≡ receivedBy (net .config) (step .kind) (step .sender) (station net (step .sender)) (station net (step .receiver))
+  pub after-is : after ≡ withTwo net (step .sender) s (step .receiver) r
 
 -- the stations in a state
 unfoldable pub inState : Net → ℕ → ℕ

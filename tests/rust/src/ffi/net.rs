@@ -1,7 +1,7 @@
 //! What the wrappers of both kinds of net share.
 
 use super::lending::{lend_mut, lend_slice, LaidOut, Packed};
-use super::station::Station;
+use super::station::Aggregate;
 use super::{map, Library};
 use crate::calls::NetCalls;
 use crate::model::map::Map;
@@ -9,12 +9,41 @@ use crate::model::net::{self as rules, Run, Step};
 use crate::model::refusal::Refusal;
 use crate::model::{station as model, PLACES};
 
+/// Stands between the fields of a net: no call may touch it.
+const BESIDE: u8 = 0xa5;
+
 /// What a net is opened with.
 #[derive(Clone, Copy)]
 #[repr(C)]
 struct Config {
     k: u8,
     classes: u8,
+    beside: [u8; 6],
+}
+
+/// A station in its place.
+#[derive(Clone, Copy)]
+#[repr(C)]
+struct Place {
+    held: Aggregate,
+    unstarted: u64,
+    parent: u8,
+    waits: u8,
+    state: u8,
+    beside: [u8; 5],
+}
+
+impl Place {
+    fn of(station: &model::Station) -> Place {
+        let model::Station { held, unstarted, parent, waits, state } = *station;
+        Place { held: held.lay_out(), unstarted, parent, waits, state, beside: [BESIDE; 5] }
+    }
+
+    fn station(&self) -> model::Station {
+        let Place { held, unstarted, parent, waits, state, beside } = *self;
+        assert_eq!(beside, [BESIDE; 5], "what stands beside a station was written");
+        model::Station { held: LaidOut::take_back(&held), unstarted, parent, waits, state }
+    }
 }
 
 /// The stations of a net of either kind; where they meet, the whole net.
@@ -22,21 +51,22 @@ struct Config {
 #[repr(C)]
 pub struct Line {
     config: Config,
-    stations: [Station; PLACES],
+    stations: [Place; PLACES],
 }
 
 impl Line {
     pub fn of(rules::Config { k, classes }: rules::Config, stations: &[model::Station; PLACES]) -> Line {
-        Line { config: Config { k, classes }, stations: stations.each_ref().map(LaidOut::lay_out) }
+        Line { config: Config { k, classes, beside: [BESIDE; 6] }, stations: stations.each_ref().map(Place::of) }
     }
 
     pub fn config(&self) -> rules::Config {
-        let Config { k, classes } = self.config;
+        let Config { k, classes, beside } = self.config;
+        assert_eq!(beside, [BESIDE; 6], "what stands beside k and c was written");
         rules::Config { k, classes }
     }
 
     pub fn stations(&self) -> [model::Station; PLACES] {
-        self.stations.each_ref().map(LaidOut::take_back)
+        self.stations.each_ref().map(Place::station)
     }
 }
 

@@ -1,22 +1,20 @@
--- `capi::mailbox_net::tally_mailbox_run` meets its contract: the law of a lent event, at `run`. Assumes nothing.
-use mathlib.Core.List.{[], _∷_}
-use mir.Syntax.{w16}
-use Rattle.lent.proofs.Data.{numbers}
-use Rattle.lent.proofs.Law.{proved}
-use Rattle.schedule.specs.Draws.{runOn}
-use Rattle.mailbox.specs.Net.{netOf}
-use Rattle.mailbox.specs.Rules.{rules}
+-- `capi::mailbox_net::tally_mailbox_run` meets its contract: what `mailbox::run` comes to, in numbers. Assumes nothing.
+use mathlib.Core.Path.{ap}
+use borrow.Author.Needs.{needs}
 use Rattle.capi.specs.Steps.{runCall}
-use Rattle.capi.proofs.Lent.{run-on-line}
-use Rattle.capi.proofs.mailbox_net.run.Symbol as by-value
-use Rattle.capi.proofs.mailbox_net.run.Met as by-value-met
-use Rattle.capi.proofs.mailbox_net.tally_mailbox_run.Key as key
 use Rattle.capi.proofs.mailbox_net.tally_mailbox_run.Statement.{statement}
-use Rattle.capi.proofs.mailbox_net.tally_mailbox_run.Code as code
+use Rattle.capi.proofs.mailbox_net.tally_mailbox_run.Tie as tie
+
+run-requires : tie.Need-run-requires
+run-requires c κs = search needs
+
+run-answer-requires : tie.Need-run-answer-requires
+run-answer-requires c κs = search needs
+
+returns : tie.Need-returns
+returns c =
+    let ran = c .before .run .ensures in
+    (rw (c .run-answer .ensures) (ap runCall (ran .0)), ran .1)
 
 pub tally-mailbox-run-spec : {M : Type 1} → statement M
-unfolding code.routine
-tally-mailbox-run-spec 𝓤 H 𝓜 𝓖 𝓡 =
-    proved 𝓤 H 𝓜 𝓖 𝓡 (run-on-line (numbers 1 tt w16 ∷ []) (λ κs a line. runCall (runOn rules (netOf line (a .0 .now)) (a .1 .0 .now))))
-    code.env key.name by-value.name by-value.routine
-    (code.unfolded 𝓤 H 𝓜 𝓡) code.calls-capi·mailbox-net·run (by-value-met.met 𝓤 H 𝓜 𝓖 𝓡)
+tally-mailbox-run-spec = tie.close (tie.spec run-requires run-answer-requires returns)

@@ -1,21 +1,21 @@
--- `capi::rendezvous_net::tally_rendezvous_step` meets its contract: the law of a lent event, at `step`. Assumes nothing.
-use mathlib.Core.List.{[], _∷_}
-use mir.Syntax.{w8}
-use Rattle.lent.proofs.Data.{number}
-use Rattle.lent.proofs.Law.{proved}
-use Rattle.schedule.specs.Draws.{stepOn}
-use Rattle.rendezvous.specs.Rules.{rules}
-use Rattle.schedule.specs.Listing as listing
+-- `capi::rendezvous_net::tally_rendezvous_step` meets its contract: what `rendezvous::step` comes to, in numbers. Assumes nothing.
+use mathlib.Core.Path.{_∙_, ap}
+use borrow.Author.Needs.{needs}
 use Rattle.capi.specs.Steps.{stepCall}
-use Rattle.capi.proofs.Lent.{on-net}
-use Rattle.capi.proofs.rendezvous_net.step.Symbol as by-value
-use Rattle.capi.proofs.rendezvous_net.step.Met as by-value-met
-use Rattle.capi.proofs.rendezvous_net.tally_rendezvous_step.Key as key
+use Rattle.capi.proofs.Calls.{answer-call}
 use Rattle.capi.proofs.rendezvous_net.tally_rendezvous_step.Statement.{statement}
-use Rattle.capi.proofs.rendezvous_net.tally_rendezvous_step.Code as code
+use Rattle.capi.proofs.rendezvous_net.tally_rendezvous_step.Tie as tie
+
+step-requires : tie.Need-step-requires
+step-requires c κs = search needs
+
+number-requires : tie.Need-number-requires
+number-requires c κs = search needs
+
+returns : tie.Need-returns
+returns c =
+    let made = c .before .step .ensures in
+    (answer-call (c .before .step .result) _ _ (c .number .ensures) ∙ ap stepCall (made .0), made .1)
 
 pub tally-rendezvous-step-spec : {M : Type 1} → statement M
-unfolding code.routine
-tally-rendezvous-step-spec 𝓤 H 𝓜 𝓖 𝓡 =
-    proved 𝓤 H 𝓜 𝓖 𝓡 (on-net (number w8 ∷ number w8 ∷ number w8 ∷ []) (λ κs a n. stepCall (stepOn rules n (listing.step (a .0) (a .1 .0) (a .1 .1 .0))))) code.env key.name by-value.name by-value.routine
-    (code.unfolded 𝓤 H 𝓜 𝓡) code.calls-capi·rendezvous-net·step (by-value-met.met 𝓤 H 𝓜 𝓖 𝓡)
+tally-rendezvous-step-spec = tie.close (tie.spec step-requires number-requires returns)

@@ -1,6 +1,6 @@
 -- `rendezvous::listing::survey` meets its contract. Invariant: the stations below j are in form, both sets are of them, and what they may send is
 -- kept; one that is not in form ends it. Assumes nothing.
-use mathlib.Core.Path.{_≡_, refl, sym, _∙_, ap₂, subst}
+use mathlib.Core.Path.{_≡_, refl, sym, _∙_, ap, ap₂, subst}
 use mathlib.Core.Bool.{Bool, true, false, and-false}
 use mathlib.Core.List.{List}
 use Prim.Native.Nat.{ℕ, _+_, _-_, _≤_, _<_, _^_}
@@ -11,17 +11,20 @@ use borrow.Author.Tests.{not-true, not-false}
 use Rattle.finite.specs.Below.{allBelow}
 use Rattle.finite.proofs.Below.{all-below-more, all-below-fails}
 use Rattle.finite.proofs.Cases.{clash}
+use Rattle.bitset.specs.Set.{bitIf}
 use Rattle.bitset.specs.internal.Selected.{setOf}
 use Rattle.bitset.proofs.Selected.{set-next}
+use Rattle.aggregate.specs.declared.Config.{Config}
 use Rattle.aggregate.specs.Aggregate.{valid}
 use Rattle.aggregate.proofs.Laws.{valid-k}
+use Rattle.station.specs.declared.Station.{Station}
 use Rattle.station.specs.Form as form
 use Rattle.station.specs.Events as events
 use Rattle.stations.specs.Stations.{areWellFormed}
-use Rattle.rendezvous.specs.declared.Net.{Net}
+use Rattle.stations.proofs.Words.{station-read}
 use Rattle.rendezvous.specs.declared.listing.States.{States}
-use Rattle.rendezvous.specs.Net.{station, wellFormed}
-use Rattle.rendezvous.specs.internal.Receivers.{inState, AreSends, Surveyed}
+use Rattle.rendezvous.specs.Net.{Net, netIn, station, wellFormed}
+use Rattle.rendezvous.specs.internal.Receivers.{inState, sendsOf, AreSends, Surveyed}
 use Rattle.rendezvous.proofs.Kept.{kept-none, kept-next}
 use Rattle.rendezvous.proofs.listing.survey.Statement.{statement}
 use Rattle.rendezvous.proofs.listing.survey.Tie as tie
@@ -35,22 +38,65 @@ abbrev isFormed : Net → ℕ → Bool
 isFormed net i = form.wellFormed (net .config) i (station net i)
 
 abbrev Inv-loop : tie.InvT-loop
-Inv-loop kept₀ net t k asleep₀ active₀ j₀ kept asleep active j =
-    (j ≤ k) × (allBelow j (isFormed net) ≡ true) × (asleep ≡ below net events.asleep j) × (active ≡ below net events.active j) × AreSends net j kept
+Inv-loop words kept₀ t k asleep₀ active₀ j₀ kept asleep active j =
+    (j ≤ k)
+    × (allBelow j (isFormed (netIn words)) ≡ true)
+    × (asleep ≡ below (netIn words) events.asleep j)
+    × (active ≡ below (netIn words) events.active j)
+    × AreSends (netIn words) j kept
 
 abbrev μ-loop : tie.MeasureT-loop
-μ-loop kept₀ net t k asleep₀ active₀ j₀ kept asleep active j = k - j
+μ-loop words kept₀ t k asleep₀ active₀ j₀ kept asleep active j = k - j
 
 -- a net out of form
 unformed : (net : Net) (b : Bool) (states : States) (kept : List ℕ) → b ≡ false → wellFormed net ≡ false → Surveyed net b states kept
 unformed net b states kept e f = record { form = e ∙ sym f; states-are = λ t. clash t e; sends-are = λ t. clash t e }
 
 -- past the test of what the net was opened with
-opened : (c : tie.Else1 Inv-loop μ-loop) → valid (c .before .before .before .args .t1 .config) ≡ true
-opened c = sym (c .before .is-valid .ensures) ∙ not-false _ (c .if1 .left)
+abbrev netOf : tie.Else1 Inv-loop μ-loop → Net
+netOf c = netIn (c .before .before .before .args .net .now)
 
-few : (c : tie.Else1 Inv-loop μ-loop) → c .before .before .before .args .t1 .config .k ≤ 64
-few c = valid-k _ (opened c) .1
+told : (c : tie.Else1 Inv-loop μ-loop) → c .before .before .config-in .result ≡ netOf c .config
+told c = c .before .before .config-in .ensures
+
+same-k : (c : tie.Else1 Inv-loop μ-loop) → c .before .before .config-in .result .k ≡ netOf c .config .k
+same-k c = ap (λ (t : Config). t .k) (told c)
+
+opened : (c : tie.Else1 Inv-loop μ-loop) → valid (netOf c .config) ≡ true
+opened c = ap valid (sym (told c)) ∙ sym (c .before .is-valid .ensures) ∙ not-false _ (c .if1 .left)
+
+-- the station that a turn reads
+low : (c : tie.After-load Inv-loop μ-loop) → c .before .before .loop .j < 64
+low c =
+    let first = c .before .before .before in
+    omega (arith, valid-k _ (opened first) .1, same-k first, c .before .loop-test .taken)
+
+read : (c : tie.After-load Inv-loop μ-loop) → c .load .result ≡ station (netOf (c .before .before .before)) (c .before .before .loop .j)
+read c = c .load .ensures ∙ station-read (c .before .before .before .before .before .before .args .net .now) (c .before .before .loop .j) (low c)
+
+form-told : (c : tie.After-is-well-formed Inv-loop μ-loop)
+    → c .is-well-formed .result ≡ isFormed (netOf (c .before .before .before .before)) (c .before .before .before .loop .j)
+form-told c =
+    c .is-well-formed .ensures
+    ∙ ap₂ (λ (t : Config) (s : Station). form.wellFormed t (c .before .before .before .loop .j) s) (told (c .before .before .before .before)) (read (c .before))
+
+-- a turn adds station j to the set of its state
+asleep-next : (c : tie.After-bit-if Inv-loop μ-loop) → let at = c .before .before .before .before .before .before in
+    (at .loop .asleep + c .bit-if .result ≡ below (netOf (at .before)) events.asleep (at .loop .j + 1)) × (at .loop .asleep + c .bit-if .result < 2 ^ 64)
+asleep-next c =
+    let loaded = c .before .before .before .before in
+    let l = loaded .before .before .loop in
+    set-next _ (l .j) (low loaded) (l .inv .2) (c .bit-if .ensures ∙ ap (λ (s : Station). bitIf (eqb (s .state) events.asleep) (l .j)) (read loaded))
+
+active-next : (c : tie.After-bit-if2 Inv-loop μ-loop) → let at = c .before .before .before .before .before .before .before .before in
+    (at .loop .active + c .bit-if2 .result ≡ below (netOf (at .before)) events.active (at .loop .j + 1)) × (at .loop .active + c .bit-if2 .result < 2 ^ 64)
+active-next c =
+    let loaded = c .before .before .before .before .before .before in
+    let l = loaded .before .before .loop in
+    set-next _ (l .j) (low loaded) (l .inv .3) (c .bit-if2 .ensures ∙ ap (λ (s : Station). bitIf (eqb (s .state) events.active) (l .j)) (read loaded))
+
+config-in-requires : tie.Need-config-in-requires Inv-loop μ-loop
+config-in-requires c κs = search needs
 
 is-valid-requires : tie.Need-is-valid-requires Inv-loop μ-loop
 is-valid-requires c κs = search needs
@@ -61,21 +107,15 @@ unformed-requires c κs = search needs
 returns : tie.Need-returns Inv-loop μ-loop
 unfolding wellFormed areWellFormed
 returns c =
-    let barred = sym (c .before .before .is-valid .ensures) ∙ not-true _ (c .before .if1 .taken) in
+    let barred = ap valid (sym (c .before .before .before .config-in .ensures)) ∙ sym (c .before .before .is-valid .ensures) ∙ not-true _ (c .before .if1 .taken) in
     unformed _ _ _ _ (c .unformed .ensures) (rw barred)
 
 loop-holds : tie.Need-loop-holds Inv-loop μ-loop
 unfolding allBelow setOf
 loop-holds c = (omega arith, refl, refl, refl, kept-none _ (c .before .before .before .pre))
 
-cast-s : tie.Need-cast-s Inv-loop μ-loop
-cast-s c = search needs
-
-mul-s : tie.Need-mul-s Inv-loop μ-loop
-mul-s c = omega arith
-
-element-copy-out-s : tie.Need-element-copy-out-s Inv-loop μ-loop
-element-copy-out-s c = let most = few (c .before .before) in omega arith
+load-requires : tie.Need-load-requires Inv-loop μ-loop
+load-requires c κs = search needs
 
 is-well-formed-requires : tie.Need-is-well-formed-requires Inv-loop μ-loop
 is-well-formed-requires c κs = search needs
@@ -86,28 +126,15 @@ unformed-requires-2 c κs = search needs
 returns-2 : tie.Need-returns-2 Inv-loop μ-loop
 unfolding wellFormed areWellFormed
 returns-2 c =
-    let l = c .before .before .before .before .before .loop in
-    let net = c .before .before .before .before .before .before .before .before .before .args .t1 in
-    let broken = sym (c .before .before .is-well-formed .ensures) ∙ not-true _ (c .before .if2 .taken) in
-    unformed _ _ _ _ (c .unformed2 .ensures) (simp (all-below-fails (isFormed net) (net .config .k) (l .j) (omega arith) broken, and-false))
+    let loaded = c .before .before .before in
+    let l = loaded .before .before .loop in
+    let net = netOf (loaded .before .before .before) in
+    let broken = sym (form-told (c .before .before)) ∙ not-true _ (c .before .if2 .taken) in
+    let inside : l .j < net .config .k = omega (arith, loaded .before .loop-test .taken, same-k (loaded .before .before .before)) in
+    unformed _ _ _ _ (c .unformed2 .ensures) (simp (all-below-fails (isFormed net) (net .config .k) (l .j) inside broken, and-false))
 
 bit-if-requires : tie.Need-bit-if-requires Inv-loop μ-loop
 bit-if-requires c κs = search needs
-
--- a turn adds station j to the set of its state
-asleep-next : (c : tie.After-bit-if Inv-loop μ-loop) → let at = c .before .before .before .before .before .before in
-    (at .loop .asleep + c .bit-if .result ≡ below (at .before .before .before .before .args .t1) events.asleep (at .loop .j + 1)) × (at .loop .asleep + c .bit-if .result < 2 ^ 64)
-asleep-next c =
-    let at = c .before .before .before .before .before .before in
-    let most = few (at .before) in
-    set-next _ (at .loop .j) (omega arith) (at .loop .inv .2) (c .bit-if .ensures)
-
-active-next : (c : tie.After-bit-if2 Inv-loop μ-loop) → let at = c .before .before .before .before .before .before .before .before in
-    (at .loop .active + c .bit-if2 .result ≡ below (at .before .before .before .before .args .t1) events.active (at .loop .j + 1)) × (at .loop .active + c .bit-if2 .result < 2 ^ 64)
-active-next c =
-    let at = c .before .before .before .before .before .before .before .before in
-    let most = few (at .before) in
-    set-next _ (at .loop .j) (omega arith) (at .loop .inv .3) (c .bit-if2 .ensures)
 
 add-asleep : tie.Need-add-asleep Inv-loop μ-loop
 add-asleep c = omega (arith, asleep-next c .1)
@@ -122,34 +149,37 @@ find-sends-requires : tie.Need-find-sends-requires Inv-loop μ-loop
 find-sends-requires c κs = search needs
 
 keep-requires : tie.Need-keep-requires Inv-loop μ-loop
-keep-requires c κs = let most = few (c .before .before .before .before .before .before .before .before .before .before .before) in omega arith
+keep-requires c κs = low (c .before .before .before .before .before .before .before .before)
 
 add-j : tie.Need-add-j Inv-loop μ-loop
-add-j c = search needs
+add-j c = omega (arith, low (c .before .before .before .before .before .before .before .before .before))
 
 loop-less : tie.Need-loop-less Inv-loop μ-loop
 loop-less c = search needs
 
 loop-again : tie.Need-loop-again Inv-loop μ-loop
 loop-again c =
-    let l = c .before .before .before .before .before .before .before .before .before .before .before .loop in
-    let net = c .before .before .before .before .before .before .before .before .before .before .before .before .before .before .before .args .t1 in
-    let tested = c .before .before .before .before .before .before .before in
-    let most = few (c .before .before .before .before .before .before .before .before .before .before .before .before) in (
+    let loaded = c .before .before .before .before .before .before .before .before .before in
+    let l = loaded .before .before .loop in
+    let first = loaded .before .before .before in
+    let tested = c .before .before .before .before .before .before .before in (
       omega arith,
-      rw (all-below-more _ (l .j), l .inv .1, sym (tested .before .is-well-formed .ensures) ∙ not-false _ (tested .if2 .left)),
+      rw (all-below-more _ (l .j), l .inv .1, sym (form-told (tested .before)) ∙ not-false _ (tested .if2 .left)),
       asleep-next (c .before .before .before .before .before) .0,
       active-next (c .before .before .before) .0,
-      subst (AreSends net (l .j + 1)) (sym (c .keep .ensures)) (kept-next net (l .inv .4) (omega arith) (c .before .before .find-sends .ensures)),
+      subst (AreSends (netOf first) (l .j + 1)) (sym (c .keep .ensures))
+          (kept-next (netOf first) (l .inv .4) (low loaded)
+          (c .before .before .find-sends .ensures ∙ ap₂ (λ (t : Config) (s : Station). sendsOf t (l .j) s) (told first) (read loaded))),
     )
 
 returns-3 : tie.Need-returns-3 Inv-loop μ-loop
 unfolding wellFormed areWellFormed inState
 returns-3 c =
-    let all : c .before .loop .j ≡ c .before .before .before .before .before .args .t1 .config .k = omega arith in
+    let first = c .before .before in
+    let all : c .before .loop .j ≡ netOf first .config .k = omega (arith, same-k first) in
     let inv = rw all at (c .before .loop .inv) in
     record {
-      form = rw (opened (c .before .before)) (sym (inv .1));
+      form = rw (opened first) (sym (inv .1));
       states-are = λ e. ap₂ (λ (asleep active : ℕ). record { asleep = asleep; active = active }) (inv .2) (inv .3);
       sends-are = λ e. inv .4;
     }
@@ -160,13 +190,12 @@ survey-spec =
     (tie.spec
     Inv-loop
     μ-loop
+    config-in-requires
     is-valid-requires
     unformed-requires
     returns
     loop-holds
-    cast-s
-    mul-s
-    element-copy-out-s
+    load-requires
     is-well-formed-requires
     unformed-requires-2
     returns-2
