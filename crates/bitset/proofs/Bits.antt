@@ -1,13 +1,13 @@
--- A set bit by bit: the bits after a removal, and the count of members by bytes. A set is its lowest bit and its half, which has
+-- A set bit by bit: the bits after a removal, and the count of members as that of ones. A set is its lowest bit and its half, which has
 -- the other bits, so most goes by recursion on the bit. Assumes nothing.
 use mathlib.Core.Path.{_≡_, refl, sym, _∙_, ap}
 use mathlib.Core.Bool.{true}
-use Prim.Native.Nat.{ℕ, zero, suc, _+_, _-_, _*_, _/_, _%_, _^_, _<_, _≤_}
-use native.Mathlib.Nat.{add-zero, add-suc, pow-suc, le-div-iff-mul-le}
-use native.Mathlib.Numerals.{add-one, one-add}
+use Prim.Native.Nat.{ℕ, zero, suc, _+_, _*_, _/_, _%_, _^_, _<_, _≤_}
+use native.Mathlib.Nat.{pow-suc, le-div-iff-mul-le}
+use native.Mathlib.Numerals.{one-add}
 use native.Mathlib.Omega.{arith}
 use lib.Count.{onesIn, ones, ones-step}
-use lib.Pow.{pow-pos, shr-shr, field, mod-mod-pow}
+use lib.Pow.{pow-pos, shr-shr}
 use borrow.Author.Tests.{eqb-true, eqb-false}
 use Rattle.finite.proofs.Cases.{by-bool}
 use Rattle.bitset.specs.Set.{bit, member, membersBelow, without}
@@ -74,36 +74,14 @@ unfolding membersBelow
 count-le zero s = omega arith
 count-le (suc n) s = omega (arith, count-le n s)
 
-count-agree : (n s t : ℕ) → ((j : ℕ) → j < n → bit j s ≡ bit j t) → membersBelow n s ≡ membersBelow n t
+-- the members below n + 1: station 0, and those of the half
+count-half : (n s : ℕ) → membersBelow (suc n) s ≡ s % 2 + membersBelow n (s / 2)
 unfolding membersBelow
-count-agree zero s t same = refl
-count-agree (suc n) s t same = omega (arith, count-agree n s t (λ j h. same j (omega arith)), same n (omega arith))
+count-half zero s = omega arith
+count-half (suc n) s = omega (arith, count-half n s, bit-suc n s)
 
--- the members below m + n: those below m, and those of what is left when s is shifted by m
-count-add : (m n s : ℕ) → membersBelow (m + n) s ≡ membersBelow m s + membersBelow n (s / 2 ^ m)
-unfolding membersBelow
-count-add m zero s = omega (arith, ap (λ (k : ℕ). membersBelow k s) (add-zero m))
-count-add m (suc n) s = rw add-suc (omega (arith, count-add m n s, ap (λ (x : ℕ). x % 2) (shr-shr s m n)))
-
--- the bits below i + 1 + j stay under a remainder by 2 ^ (i + 1 + j)
-bit-mod : (i j s : ℕ) → bit j (s % 2 ^ (suc i + j)) ≡ bit j s
-bit-mod i j s = ap (λ (x : ℕ). x % 2) (field s (suc i) j) ∙ (rw add-one at (mod-mod-pow (s / 2 ^ j) i 1))
-
-count-mod : (n s : ℕ) → membersBelow n (s % 2 ^ n) ≡ membersBelow n s
-count-mod n s =
-    count-agree n (s % 2 ^ n) s
-    (λ j h. let e : suc (n - suc j) + j ≡ n = omega arith in ap (λ (m : ℕ). bit j (s % 2 ^ m)) (sym e) ∙ bit-mod (n - suc j) j s)
-
--- one byte more
-pub count-byte : (n s : ℕ) → membersBelow (n + 8) s ≡ membersBelow n s + membersBelow 8 (s / 2 ^ n % 256)
-count-byte n s = omega (arith, count-add n 8 s, count-mod 8 (s / 2 ^ n))
-
--- the members of a set below 2^n, counted from the lowest on, as the processor's count of its bits is defined
+-- the members of a set below 2^n are the ones of its word, which the language counts by halves
 pub ones-count : (n s : ℕ) → s < 2 ^ n → ones s ≡ membersBelow n s
 unfolding membersBelow ones onesIn
 ones-count zero s h = ap ones (let z : s ≡ 0 = omega arith in z)
-ones-count (suc n) s h =
-    let rest : ones (s / 2) ≡ membersBelow n (s / 2) = ones-count n (s / 2) (omega (arith, pow-suc 2 n)) in
-    let first : membersBelow (1 + n) s ≡ membersBelow 1 s + membersBelow n (s / 2) = count-add 1 n s in
-    let all : membersBelow (suc n) s ≡ membersBelow (1 + n) s = ap (λ (m : ℕ). membersBelow m s) (sym (one-add n)) in
-    omega (arith, ones-step s, rest, first, all)
+ones-count (suc n) s h = omega (arith, ones-step s, ones-count n (s / 2) (omega (arith, pow-suc 2 n)), count-half n s)

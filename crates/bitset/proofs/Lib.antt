@@ -1,4 +1,3 @@
-pub mod Entries
 pub mod Bits
 pub mod Laws
 pub mod Selected

@@ -2,8 +2,6 @@
 ghost use mathlib.Core.Path.{_≡_};
 ghost use Rattle.bitset.specs.Set;
 
-mod table;
-
 const MOST_STATIONS: u64 = 64;
 
 // Whether a line may have k stations.
@@ -13,25 +11,11 @@ pub fn is_station_count(k: u64) -> bool
     (0 < k) & (k <= MOST_STATIONS)
 }
 
-// The size of a set: the sum of the table's entries at its eight bytes.
+// The size of a set: how many bits of its word are one.
 pub fn size(set: u64) -> u8
     ensures { λ r. ⌜ r ≡ Set.size set ⌝ }
 {
-    let counts = table::COUNTS;
-    let mut sum: u8 = 0;
-    let mut at: u8 = 0;
-    while at < 64 {
-        sum += counts[((set >> at) % 256) as usize];
-        at += 8;
-    }
-    sum
-}
-
-// The size of a set, by the processor's own count: a search over many sets, most of them empty, would lay out the table for each.
-pub fn count(set: u64) -> u32
-    ensures { λ r. ⌜ r ≡ Set.size set ⌝ }
-{
-    if set == 0 { 0 } else { u64::count_ones(set) }
+    u64::count_ones(set) as u8
 }
 
 // Whether station j is in the set.

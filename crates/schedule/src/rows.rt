@@ -7,6 +7,7 @@ use std::num::wrapping_sub_u32;
 ghost use mathlib.Core.Path.{_≡_};
 ghost use Prim.Native.Nat.{_≤_};
 ghost use lib.ListN.{getD};
+ghost use Rattle.bitset.specs.Set.{size};
 ghost use Rattle.schedule.specs.Rows;
 
 // What a search for an entry of a list by its number finds: the entry, or, where the list is too short, how many entries are still to pass.
@@ -36,6 +37,17 @@ fn row_at(rows: &[u64], at: usize) -> u64
     if at < rows.len() { rows[at] } else { 0 }
 }
 
+// How many steps a row lists. Most rows are empty, and a test is cheaper than a count.
+fn row_size(row: u64) -> u32
+    ensures { λ r. ⌜ r ≡ size row ⌝ }
+{
+    if row == 0 {
+        0
+    } else {
+        bitset::size(row) as u32
+    }
+}
+
 // Entry `index`, counted from 0, of the steps of one kind. The scan over senders and receivers is left once it is met; a row that ends
 // before it is passed by its size, and eight receivers of whom none is in it by one test.
 fn find_of_kind(rows: &[u64], kind: u8, k: u8, index: u32) -> Entry
@@ -47,7 +59,7 @@ fn find_of_kind(rows: &[u64], kind: u8, k: u8, index: u32) -> Entry
     let mut receiver: u8 = 0;
     'scan: while sender < k {
         let set = row_at(rows, 4 * (sender as usize) + (kind as usize) - 1);
-        let members = bitset::count(set);
+        let members = row_size(set);
         receiver = 0;
         if members <= left {
             left -= members;
@@ -98,10 +110,10 @@ pub fn add(sizes: Sizes, a: u64, b: u64, c: u64, d: u64) -> Sizes
         return sizes;
     }
     Sizes {
-        first: wrapping_add_u32(sizes.first, bitset::count(a)),
-        second: wrapping_add_u32(sizes.second, bitset::count(b)),
-        third: wrapping_add_u32(sizes.third, bitset::count(c)),
-        fourth: wrapping_add_u32(sizes.fourth, bitset::count(d)),
+        first: wrapping_add_u32(sizes.first, row_size(a)),
+        second: wrapping_add_u32(sizes.second, row_size(b)),
+        third: wrapping_add_u32(sizes.third, row_size(c)),
+        fourth: wrapping_add_u32(sizes.fourth, row_size(d)),
     }
 }
 
@@ -110,10 +122,10 @@ pub fn remove(sizes: Sizes, a: u64, b: u64, c: u64, d: u64) -> Sizes
     ensures { λ r. ⌜ r ≡ Rows.removed sizes a b c d ⌝ }
 {
     Sizes {
-        first: wrapping_sub_u32(sizes.first, bitset::count(a)),
-        second: wrapping_sub_u32(sizes.second, bitset::count(b)),
-        third: wrapping_sub_u32(sizes.third, bitset::count(c)),
-        fourth: wrapping_sub_u32(sizes.fourth, bitset::count(d)),
+        first: wrapping_sub_u32(sizes.first, row_size(a)),
+        second: wrapping_sub_u32(sizes.second, row_size(b)),
+        third: wrapping_sub_u32(sizes.third, row_size(c)),
+        fourth: wrapping_sub_u32(sizes.fourth, row_size(d)),
     }
 }
 

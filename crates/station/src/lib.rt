@@ -3,7 +3,7 @@ use aggregate::Aggregate;
 use aggregate::Config;
 use refusal::Refusal;
 ghost use mathlib.Core.Path.{_≡_};
-ghost use mathlib.Core.Bool.{cond};
+ghost use mathlib.Core.Bool.{true, cond};
 ghost use Prim.Native.Nat.{_-_};
 ghost use Rattle.aggregate.specs.Aggregate.{joinable};
 ghost use Rattle.station.specs.Events;
@@ -99,6 +99,19 @@ impl Station {
         next
     }
 
+    // Line 3: what is held was joined with an answer.
+    fn holding(self, held: Aggregate) -> Station
+        ensures { λ r. ⌜ r ≡ record { held = held; unstarted = self .unstarted; parent = self .parent; waits = self .waits - 1; state = self .state } ⌝ }
+    {
+        Station {
+            held: held,
+            unstarted: self.unstarted,
+            parent: self.parent,
+            waits: less_one(self.waits),
+            state: self.state,
+        }
+    }
+
     // Line 3: an answer v was taken; the station as it was where what it holds or v is not bounded.
     pub fn answer_taken(self, t: Config, v: Aggregate) -> Station
         ensures { λ r. ⌜ r ≡ cond (joinable t (self .held) v) (Events.answerTaken t v self) self ⌝ }
@@ -109,13 +122,7 @@ impl Station {
             return self;
         }
         let both = joined.held;
-        Station {
-            held: both,
-            unstarted: self.unstarted,
-            parent: self.parent,
-            waits: less_one(self.waits),
-            state: self.state,
-        }
+        self.holding(both)
     }
 
     // Line 4: a start was taken when active.
@@ -282,6 +289,19 @@ impl Process {
         event
     }
 
+    // The end of its part, where it is allowed. Refusals come before the end is made, which keeps the code small.
+    fn finish(self, allowed: bool) -> Event
+        ensures { λ r. ⌜ Rules.eventOutcomeOf (r .reply) (r .process) ≡ Rules.decide (wellFormedProcess self) true allowed self (Rules.gives self) ⌝ }
+    {
+        if !self.is_well_formed() {
+            return self.refused(Refusal::OutOfForm);
+        }
+        if !allowed {
+            return self.refused(Refusal::NotAllowed);
+        }
+        self.gives()
+    }
+
     // Take a start from a neighbour: it wakes a sleeping station and leaves an active one a wait less.
     pub fn take_start(self, from: u8) -> Event
         ensures { λ r. ⌜ Rules.eventOutcomeOf (r .reply) (r .process) ≡ Rules.takeStart from self ⌝ }
@@ -304,16 +324,24 @@ impl Process {
         self.decide(form, to < t.k, allowed, self.done(s.start_sent(to)))
     }
 
-    // Take an answer: v is joined to the sum.
+    // Take an answer: v is joined to the sum. In form what is held is bounded, so the join's own test is that of the range.
     pub fn take_answer(self, v: Aggregate) -> Event
         ensures { λ r. ⌜ Rules.eventOutcomeOf (r .reply) (r .process) ≡ Rules.takeAnswer v self ⌝ }
     {
+        if !self.is_well_formed() {
+            return self.refused(Refusal::OutOfForm);
+        }
         let t = self.config();
         let s = self.station;
-        let form = self.is_well_formed();
-        let range = aggregate::is_bounded(t, v);
-        let allowed = s.state == ACTIVE;
-        self.decide(form, range, allowed, self.done(s.answer_taken(t, v)))
+        let held = s.held;
+        let joined = aggregate::join(t, held, v);
+        let both = joined.held;
+        self.decide(
+            true,
+            joined.bounded,
+            s.state == ACTIVE,
+            self.done(s.holding(both)),
+        )
     }
 
     // Send the sum to the parent, which the root never does.
@@ -322,9 +350,7 @@ impl Process {
     {
         let t = self.config();
         let s = self.station;
-        let form = self.is_well_formed();
-        let allowed = s.may_answer(t, self.own);
-        self.decide(form, true, allowed, self.gives())
+        self.finish(s.may_answer(t, self.own))
     }
 
     // Report the sum, which only the root does.
@@ -333,9 +359,7 @@ impl Process {
     {
         let t = self.config();
         let s = self.station;
-        let form = self.is_well_formed();
-        let allowed = s.may_report(t, self.own);
-        self.decide(form, true, allowed, self.gives())
+        self.finish(s.may_report(t, self.own))
     }
 }
 

@@ -16,7 +16,7 @@ const OWN: [u8; 5] = [0, 1, 63, 64, 255];
 /// one past c; then numbers that are no class count.
 const CLASS: [(u8, usize); 8] = [(1, 0), (1, 1), (3, 0), (3, 2), (3, 7), (8, 7), (0, 0), (9, 7)];
 
-const SETS: [u64; 7] = [0, 1, 2, 4, 1 << 63, u64::MAX >> 1, u64::MAX];
+const SETS: [u64; 8] = [0, 1, 2, 4, 1 << 63, u64::MAX >> 1, u64::MAX << 1, u64::MAX];
 const PARENTS: [u8; 5] = [0, 1, 63, 64, 255];
 const WAITS: [u8; 5] = [0, 1, 64, 65, 255];
 const STATES: [u8; 5] = [0, 1, 2, 3, 255];

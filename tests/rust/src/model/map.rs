@@ -56,7 +56,7 @@ impl Map {
 
     /// m of an accepted map: each link is named from both its ends.
     pub fn links(&self) -> u32 {
-        self.sets().iter().map(|set| set.count_ones()).sum::<u32>() / 2
+        self.sets().iter().map(|&set| u32::from(set::size(set))).sum::<u32>() / 2
     }
 
     /// Bytes of the stored form.

@@ -12,8 +12,9 @@ pub fn without(set: u64, j: u8) -> u64 {
     set & !singleton(j)
 }
 
+/// The number of members, one by one: the library counts ones of a word.
 pub fn size(set: u64) -> u8 {
-    set.count_ones() as u8
+    members(set).count() as u8
 }
 
 /// Every member is below k.

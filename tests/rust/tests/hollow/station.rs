@@ -1,12 +1,13 @@
-//! One station: what may go wrong with missing numbers and with classes, in the record, handed over, and given.
+//! One station: what may go wrong with missing numbers and with classes, in the record, handed over, and given, and with the size of a
+//! set that is counted over part of its word.
 
 use super::is_caught;
 use conformance::calls::{Model, StationCalls};
 use conformance::compare::station::{at_extremes, lists};
 use conformance::model::aggregate::{Aggregate, Cell, MOST_MISSING};
 use conformance::model::refusal::{Cause, Refusal};
-use conformance::model::station::{Event, Process};
-use conformance::model::{CLASSES, MOST_CLASSES};
+use conformance::model::station::{Event, Process, ASLEEP};
+use conformance::model::{set, CLASSES, MOST_CLASSES};
 
 /// Enough lists to meet each fault.
 const LISTS: u64 = 5_000;
@@ -29,9 +30,11 @@ enum Fault {
     PastCGiven,
     GivenWhenRefused,
     NineClassesInForm,
+    HalfAWordCounted,
+    LastStationUncounted,
 }
 
-const FAULTS: [Fault; 15] = [
+const FAULTS: [Fault; 17] = [
     Fault::RecordUnbounded,
     Fault::MostInTheRecordRefused,
     Fault::HandedOverUnbounded,
@@ -47,6 +50,8 @@ const FAULTS: [Fault; 15] = [
     Fault::PastCGiven,
     Fault::GivenWhenRefused,
     Fault::NineClassesInForm,
+    Fault::HalfAWordCounted,
+    Fault::LastStationUncounted,
 ];
 
 impl Fault {
@@ -67,6 +72,15 @@ impl Fault {
             gathered.put(usize::from(classes) - 1, Cell::default());
         }
         gathered
+    }
+
+    /// What a count of the set goes over.
+    fn counted(self, set: u64) -> u64 {
+        match self {
+            Fault::HalfAWordCounted => set & u64::from(u32::MAX),
+            Fault::LastStationUncounted => set & (u64::MAX >> 1),
+            _ => set,
+        }
     }
 
     /// Whether the guards let an event pass.
@@ -125,6 +139,9 @@ impl StationCalls for Fault {
         if verdict.is_ok() && process.classes <= MOST_CLASSES {
             given = make(process, event);
             self.spoil(event, before.classes, &before.station.held, &mut process.station.held, &mut given);
+            if before.station.state == ASLEEP {
+                process.station.waits = set::size(self.counted(before.station.unstarted)).saturating_sub(1);
+            }
         }
         if *self == Fault::GivenWhenRefused && verdict.is_err() {
             given = before.station.held;

@@ -1,4 +1,4 @@
--- `station::Process::report` meets its contract: `decide` of the code is that of the rules, at what the callees ensure. Assumes nothing.
+-- `station::Process::report` meets its contract: `finish` of the code is `decide` of the rules, at what the callees ensure. Assumes nothing.
 use borrow.Author.Needs.{needs}
 use Rattle.station.specs.Process.{report}
 use Rattle.station.proofs.Process.report.Statement.{statement}
@@ -7,36 +7,15 @@ use Rattle.station.proofs.Process.report.Tie as tie
 config-requires : tie.Need-config-requires
 config-requires c κs = search needs
 
-is-well-formed-requires : tie.Need-is-well-formed-requires
-is-well-formed-requires c κs = search needs
-
 may-report-requires : tie.Need-may-report-requires
 may-report-requires c κs = search needs
 
-gives-requires : tie.Need-gives-requires
-gives-requires c κs = search needs
-
-decide-requires : tie.Need-decide-requires
-decide-requires c κs = search needs
+finish-requires : tie.Need-finish-requires
+finish-requires c κs = search needs
 
 returns : tie.Need-returns
 unfolding report
-returns c =
-    rw (
-      c .before .gives .ensures,
-      c .before .before .may-report .ensures,
-      c .before .before .before .is-well-formed .ensures,
-      c .before .before .before .before .before .config .ensures,
-    )
-    at (c .decide .ensures)
+returns c = rw (c .before .may-report .ensures, c .before .before .before .config .ensures) at (c .finish .ensures)
 
 pub report-spec : {M : Type 1} → statement M
-report-spec =
-    tie.close
-    (tie.spec
-    config-requires
-    is-well-formed-requires
-    may-report-requires
-    gives-requires
-    decide-requires
-    returns)
+report-spec = tie.close (tie.spec config-requires may-report-requires finish-requires returns)

@@ -11,14 +11,14 @@ join-requires c κs = search needs
 returns : tie.Need-returns
 returns c = rw (sym (c .before .before .join .ensures .0) ∙ not-true _ (c .if1 .taken))
 
-less-one-requires : tie.Need-less-one-requires
-less-one-requires c κs = search needs
+holding-requires : tie.Need-holding-requires
+holding-requires c κs = search needs
 
 returns-2 : tie.Need-returns-2
 returns-2 c =
     let join = c .before .before .before .before .join in
     let may = sym (join .ensures .0) ∙ not-false _ (c .before .before .if1 .left) in
-    rw (c .less-one .ensures, join .ensures .1, may)
+    rw (c .holding .ensures, join .ensures .1, may)
 
 pub answer-taken-spec : {M : Type 1} → statement M
-answer-taken-spec = tie.close (tie.spec join-requires returns less-one-requires returns-2)
+answer-taken-spec = tie.close (tie.spec join-requires returns holding-requires returns-2)
