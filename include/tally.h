@@ -2,7 +2,7 @@
    Link it after the sources, -lcapi. It keeps nothing, writes nothing but what a call is lent without const, and of other code needs only
    memcpy, memmove, memset and memcmp.
 
-   Every call is total: any bytes, numbers or records may be handed over. Its answer has document 01's number in the low byte, 0 where
+   Every call is total: any bytes, numbers or records may be handed over. Its answer has the documents' number in the low byte, 0 where
    nothing is refused, and above it the value or values that come with that number:
        answer = number + 256 * value
    A refusal leaves all that was lent as it was, but for a run that stops with 11: it leaves the net reached. Pointers are never null, and
@@ -97,29 +97,32 @@ struct tally_given tally_process_report(struct tally_process *p);
 
 /* ---- line maps ----------------------------------------------------------------------------------------------------------------------
 
-   k stations, 1 to 64, numbered from 0; how many classes, 1 to TALLY_CLASSES; the lot; and of each station the counts, one a class
-   (TALLY_NO_READING among them), and the neighbours (bit j is station j). Places k and above, and counts past the classes, are zero after
-   reading, and otherwise ignored. */
+   k stations, 1 to 64, numbered from 0; how many classes, 1 to TALLY_CLASSES; the lot, of which only writing asks that it is below
+   TALLY_LOT_LIMIT, as every lot that was read is; and of each station the counts, one a class (TALLY_NO_READING among them), and the
+   neighbours (bit j is station j). Places k and above, and counts past the classes, are zero after reading, and otherwise ignored. */
 struct tally_map {
     uint8_t k;
     uint8_t classes;
-    uint32_t lot;
+    uint64_t lot;
     uint32_t counts[TALLY_STATIONS][TALLY_CLASSES];
     uint64_t neighbours[TALLY_STATIONS];
 };
 
-TALLY_ASSERT(sizeof(struct tally_map) == 2568);
+#define TALLY_LOT_LIMIT ((uint64_t)1 << 48)
+
+TALLY_ASSERT(sizeof(struct tally_map) == 2576);
 TALLY_ASSERT(offsetof(struct tally_map, classes) == 1);
-TALLY_ASSERT(offsetof(struct tally_map, lot) == 4);
-TALLY_ASSERT(offsetof(struct tally_map, counts) == 8);
-TALLY_ASSERT(offsetof(struct tally_map, neighbours) == 2056);
+TALLY_ASSERT(offsetof(struct tally_map, lot) == 8);
+TALLY_ASSERT(offsetof(struct tally_map, counts) == 16);
+TALLY_ASSERT(offsetof(struct tally_map, neighbours) == 2064);
 
 /* Reads the last map in the bytes: 0, or 1 to 10, which leave *map; 7 to 10 come with the station. The row length says how many classes
    there are: 2 where it is not one of 12, 16, .. 40. */
 uint64_t tally_map_read(struct tally_map *map, const uint8_t *bytes, size_t length);
 
 /* Writes the stored form from the first byte: 0 with the number of bytes filled, or 2 (classes not 1 to TALLY_CLASSES), 3, 7 to 10 with
-   the station, 15 with the length needed, which leave the bytes. What stands past the bytes filled is left. */
+   the station, 18 (a lot of TALLY_LOT_LIMIT or more), 15 with the length needed, which leave the bytes. What stands past the bytes filled is
+   left. */
 uint64_t tally_map_write(struct tally_map map, uint8_t *bytes, size_t length);
 
 /* Whether a map is accepted: 0, or 2, or 3, or 7 to 10 with the lowest offender. */

@@ -81,7 +81,7 @@ int main(void)
 
     tally_rendezvous_fresh(&net, map); /* a map that was read is accepted */
     unsigned steps = draw_by_draw(&net);
-    printf("lot %" PRIu32 " steps %u links %" PRIu64 "\n", map.lot, steps, links);
+    printf("lot %" PRIu64 " steps %u links %" PRIu64 "\n", map.lot, steps, links);
 
     run(map);
     map.counts[1][0] = TALLY_NO_READING;

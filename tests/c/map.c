@@ -1,4 +1,5 @@
-/* Maps of one class and of several, written, read back, counted and refused: the values that come with the numbers, and what is left. */
+/* Maps of one class and of several, and with long lots, written, read back, counted and refused: the values that come with the numbers, and
+   what is left. */
 #include "check.h"
 #include "triangle.h"
 #include <string.h>
@@ -57,6 +58,24 @@ static void classes(void)
     CHECK(same(&map, &two_classes));
 }
 
+/* The upper part of a long lot stands beside the distance; a longer one is not written, and no other call looks at it. */
+static void lots(void)
+{
+    uint8_t bytes[52];
+    struct tally_map map = triangle, back;
+    map.lot = 0x543210fedcba;
+    CHECK(tally_map_write(map, bytes, sizeof bytes) == 256 * 52);
+    const uint8_t halves[8] = {36, 0, 0x32, 0x54, 0xba, 0xdc, 0xfe, 0x10};
+    CHECK(memcmp(bytes + 40, halves, sizeof halves) == 0);
+    CHECK(tally_map_read(&back, bytes, sizeof bytes) == 0 && same(&back, &map));
+
+    memset(bytes, 0xa5, sizeof bytes);
+    map.lot = TALLY_LOT_LIMIT;
+    CHECK(tally_map_accept(map) == 0 && tally_map_links(map) == 256 * 3);
+    CHECK(tally_map_write(map, bytes, 51) == 18 && tally_map_write(map, bytes, sizeof bytes) == 18);
+    CHECK(bytes[0] == 0xa5);
+}
+
 /* Every call on a map handed over refuses it alike. */
 static void refused(struct tally_map map, uint64_t number, uint64_t station)
 {
@@ -71,6 +90,7 @@ int main(void)
 {
     store();
     classes();
+    lots();
     CHECK(tally_map_accept(triangle) == 0);
     CHECK(tally_map_links(triangle) == 256 * 3);
     refused((struct tally_map){3, 0, 0, {{0}}, {6, 5, 3}}, 2, 0);
@@ -81,6 +101,6 @@ int main(void)
     refused((struct tally_map){2, 1, 0, {{0}}, {2, 4 | 1}}, 7, 1);
     refused((struct tally_map){1, 1, 0, {{0}}, {1}}, 8, 0);
     refused((struct tally_map){3, 1, 0, {{0}}, {2, 1, 2}}, 9, 2);
-    refused((struct tally_map){2, 1, 0, {{0}}, {0, 0}}, 10, 1);
+    refused((struct tally_map){2, 1, UINT64_MAX, {{0}}, {0, 0}}, 10, 1);
     return 0;
 }

@@ -80,7 +80,7 @@ static void measure(const char *name, int most, void (*call)(void), void (*spoil
 
 static void all_linked(void)
 {
-    map = (struct tally_map){.k = TALLY_STATIONS, .classes = TALLY_CLASSES, .lot = 42};
+    map = (struct tally_map){.k = TALLY_STATIONS, .classes = TALLY_CLASSES, .lot = TALLY_LOT_LIMIT - 1};
     for (unsigned i = 0; i < TALLY_STATIONS; i++) {
         for (unsigned j = 0; j < TALLY_CLASSES; j++)
             map.counts[i][j] = (i + j) % 2 ? TALLY_NO_READING : TALLY_NO_READING - 1;

@@ -17,7 +17,7 @@ pub fn read(bytes: &[u8], map: &mut Map) -> Result<(), Refusal> {
     if !(1..=64).contains(&k) {
         return Err((3, 0));
     }
-    if word(&trailer[4..]) as usize != row * k {
+    if usize::from(u16::from_le_bytes([trailer[4], trailer[5]])) != row * k {
         return Err((4, 0));
     }
     let Some(first) = start.checked_sub(row * k) else { return Err((5, 0)) };
@@ -33,7 +33,8 @@ pub fn read(bytes: &[u8], map: &mut Map) -> Result<(), Refusal> {
     accept(&sets[..k])?;
     let classes = (row - SET) / 4;
     let counts = [[0; 8]; 64];
-    *map = Map { k: k as u8, classes: classes as u8, lot: word(&trailer[8..]), counts, neighbours: sets };
+    let lot = u64::from(word(&trailer[8..])) | u64::from(u16::from_le_bytes([trailer[6], trailer[7]])) << 32;
+    *map = Map { k: k as u8, classes: classes as u8, lot, counts, neighbours: sets };
     for (counts, row) in map.counts.iter_mut().zip(rows) {
         for (count, four) in counts.iter_mut().zip(row[..row.len() - SET].chunks_exact(4)) {
             *count = word(four);
@@ -51,6 +52,9 @@ pub fn write(map: &Map, buffer: &mut [u8]) -> Result<(), Refusal> {
     }
     let (k, classes) = (usize::from(map.k), usize::from(map.classes));
     accept(&map.neighbours[..k])?;
+    if map.lot >= 1 << 48 {
+        return Err((18, 0));
+    }
     let row_length = 4 * classes + SET;
     let needed = row_length * k + TRAILER;
     let Some(filled) = buffer.get_mut(..needed) else { return Err((15, needed as u32)) };
@@ -65,7 +69,8 @@ pub fn write(map: &Map, buffer: &mut [u8]) -> Result<(), Refusal> {
         tail.copy_from_slice(&set.to_le_bytes());
         sum = sum.wrapping_add(set as u32).wrapping_add((set >> 32) as u32);
     }
-    let numbers = [u32::from(map.k) | (row_length as u32) << 16, (row_length * k) as u32, map.lot];
+    let upper = (map.lot >> 32) as u32;
+    let numbers = [u32::from(map.k) | (row_length as u32) << 16, (row_length * k) as u32 | upper << 16, map.lot as u32];
     for (four, number) in trailer.chunks_exact_mut(4).zip(numbers) {
         four.copy_from_slice(&number.to_le_bytes());
         sum = sum.wrapping_add(number);

@@ -16,7 +16,7 @@ use Rattle.bitset.specs.Set.{isStationCount}
 use Rattle.topology.specs.declared.Fault.{Fault}
 use Rattle.topology.specs.declared.Fault.the-variants.{Classes, Stations, Beyond, Itself, OneWay, Apart}
 use Rattle.linemap.specs.declared.Map.{Map}
-use Rattle.linemap.specs.Writing.{writing}
+use Rattle.linemap.specs.Writing.{isStorable, writing}
 use Rattle.linemap.specs.Maps.{configOf, acceptance}
 use Rattle.linemap.specs.Stored.{rowLength, lengthOf}
 use Rattle.linemap.proofs.Accepted.{map-classes, map-web}
@@ -60,5 +60,6 @@ writing-small m n =
     let small : valueOf (writing m n) ≤ 2576 =
     unless-small 2576 (isAccepted (acceptance m)) (acceptance m) _ (λ refused. omega (arith, acceptance-small m))
     (λ accepted. let need = length-most m accepted in
-    unless-small 2576 (leb (lengthOf m) n) _ _ (λ short. need) (λ fits. need)) in
+    unless-small 2576 (isStorable (m .lot)) _ _ (λ long. zero-le)
+    (λ small. unless-small 2576 (leb (lengthOf m) n) _ _ (λ short. need) (λ fits. need))) in
     omega arith

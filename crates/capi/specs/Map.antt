@@ -11,6 +11,6 @@ use Rattle.capi.specs.Answers.{packed, Called, called, replacing}
 abbrev pub readCall : List ℕ → Map → Called ℕ Map
 readCall s before = replacing (reading s .numbers) before (reading s .map)
 
--- "a map handed over goes 3, 7 to 10, and to be written then 15" (Causes and numbers)
+-- "a map handed over goes 3, 7 to 10, and to be written then 15" (Causes and numbers), with 18 before it (document 02, request 4)
 abbrev pub writeCall : Map → List ℕ → Called ℕ (List ℕ)
 writeCall m s = called (packed (writing m (length s))) (written m s)

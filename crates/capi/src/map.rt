@@ -80,6 +80,7 @@ fn write_fault(why: WriteFault) -> u64
 {
     match why {
         WriteFault::Unfit(why) => fault(why),
+        WriteFault::Lot => 18,
         WriteFault::Buffer(need) => with_value(15, need as u32),
     }
 }

@@ -39,7 +39,7 @@ pub record Holds (K : Kind) (m : Map) (calls : List Call) : Type 0 where
   pub each-way : reports K m calls ≡ 1 → (i j : ℕ) → linked (m .k) (m .neighbours) i j ≡ true
       → (messages K m calls i j ≡ 1) × (messages K m calls j i ≡ 1)
 
--- "On every accepted map": of numbers that fit their fields, as in every map that code holds, and as every map that is read has (`Read`)
+-- "On every accepted map": of counts and sets that fit their fields, as in every map that code holds, and as every map that is read has (`Read`)
 abbrev pub OnEveryMap : {A : Type 0} → (Map → A → Type 0) → Type 0
 OnEveryMap {A = A} Claim = (m : Map) → Fits m → acceptance m ≡ accepted → (a : A) → Claim m a
 

@@ -34,7 +34,9 @@ readFaultFrom (n ∷ v) =
 
 abbrev writeFaultFrom : List ℕ → WriteFault
 writeFaultFrom [] = write.Buffer 0
-writeFaultFrom (n ∷ v) = cond (eqb n 15) (write.Buffer (getD v 0 0)) (write.Unfit (faultFrom (n ∷ v)))
+writeFaultFrom (n ∷ v) =
+    cond (eqb n 15) (write.Buffer (getD v 0 0))
+    (cond (eqb n 18) write.Lot (write.Unfit (faultFrom (n ∷ v))))
 
 read-again : (f : ReadFault) → readFaultFrom (readFaultNumbers f) ≡ f
 read-again read.Short = refl
@@ -50,6 +52,7 @@ read-again (read.Unfit (Apart i)) = refl
 
 write-again : (f : WriteFault) → writeFaultFrom (writeFaultNumbers f) ≡ f
 write-again (write.Buffer n) = refl
+write-again write.Lot = refl
 write-again (write.Unfit Classes) = refl
 write-again (write.Unfit Stations) = refl
 write-again (write.Unfit (Beyond i)) = refl
@@ -67,6 +70,7 @@ read-fault-refuses (read.Unfit fault) = fault-refuses fault
 
 write-fault-refuses : (f : WriteFault) → isAccepted (writeFaultNumbers f) ≡ false
 write-fault-refuses (write.Buffer n) = refl
+write-fault-refuses write.Lot = refl
 write-fault-refuses (write.Unfit fault) = fault-refuses fault
 
 answer-pins : (a b : ReadAnswer) → readNumbers a ≡ readNumbers b → a ≡ b

@@ -1,4 +1,5 @@
--- Document 01's examples on reading and writing ("The program" and "Edges"), and one of two classes, computed. Assumes nothing.
+-- Document 01's examples on reading and writing ("The program" and "Edges"), one of two classes, and one with a long lot, computed.
+-- Assumes nothing.
 use mathlib.Core.Path.{_≡_, refl}
 use mathlib.Core.List.{List, [], _∷_, _++_}
 use Prim.Native.Nat.{ℕ}
@@ -110,6 +111,33 @@ pair-totals = (refl, refl)
 other-rows : (reading (pair-bytes 12) .numbers ≡ 4 ∷ []) × (reading (pair-bytes 18) .numbers ≡ 2 ∷ []) × (reading (pair-bytes 44) .numbers ≡ 2 ∷ [])
 unfolding reading number
 other-rows = (refl, refl, refl)
+
+-- the longest lot (document 02, request 4): its upper part stands beside the distance
+abbrev unlinked : (k lot : ℕ) → Map
+unlinked k lot = record { k = k; classes = 1; lot = lot; counts = 9 ∷ replicate 511 0; neighbours = replicate 64 0 }
+
+abbrev longest : List ℕ
+longest =
+    9 ∷ 0 ∷ 0 ∷ 0 ∷ 0 ∷ 0 ∷ 0 ∷ 0 ∷ 0 ∷ 0 ∷ 0 ∷ 0
+    ∷ 1 ∷ 0 ∷ 12 ∷ 0 ∷ 12 ∷ 0 ∷ 255 ∷ 255 ∷ 255 ∷ 255 ∷ 255 ∷ 255 ∷ 235 ∷ 255 ∷ 244 ∷ 255 ∷ []
+
+longest-stored : storedOf (unlinked 1 281474976710655) ≡ longest
+unfolding storedOf bodyOf trailerBytes rowBytes countBytes each bytes checkWord sumWords number
+longest-stored = refl
+
+longest-reads : reading longest ≡ readAs (unlinked 1 281474976710655)
+unfolding reading grid column tabulate each sumWords number verdictOf firstFrom member within anyBelow near rootOf
+longest-reads = refl
+
+-- "18 when a map handed over for writing has a lot of 2^48 or more, after 10 and before 15"
+too-long : (writing (unlinked 1 281474976710656) 0 ≡ 18 ∷ []) × (writing (unlinked 2 281474976710656) 0 ≡ 10 ∷ 1 ∷ [])
+unfolding writing verdictOf firstFrom member within anyBelow near rootOf
+too-long = (refl, refl)
+
+-- which only writing looks at
+still-accepted : acceptance (unlinked 1 281474976710656) ≡ 0 ∷ []
+unfolding verdictOf firstFrom member within anyBelow near rootOf
+still-accepted = refl
 
 -- "A map handed over with c not 1 to 8 gets 2, before 3"
 no-classes : (acceptance emptyMap ≡ 2 ∷ []) × (linksIn emptyMap ≡ 2 ∷ [])

@@ -1,5 +1,5 @@
 -- A map that was read from bytes has numbers that fit their fields: those in its rows were stored in as many bytes, and the other
--- places are zero. Assumes nothing.
+-- places are zero. Its lot stood in six bytes. Assumes nothing.
 use mathlib.Core.Path.{_≡_, ap, _∙_, subst}
 use mathlib.Core.List.{List, [], _∷_, _++_}
 use Prim.Native.Nat.{ℕ, zero, suc, _+_, _*_, _-_, _^_, _<_}
@@ -10,8 +10,9 @@ use lib.Seq.{getD-append-add}
 use borrow.Author.Tests.{ltb-true, ltb-false}
 use Rattle.finite.proofs.Cases.{by-bool}
 use Rattle.finite.specs.Below.{each, tabulate}
+use Rattle.finite.specs.Numbers.{number}
 use Rattle.linemap.specs.Stored.{rowLength}
-use Rattle.linemap.specs.Reading.{readAs, classesIn, stationsIn, lotIn, startIn, column, grid, mapAt, reading}
+use Rattle.linemap.specs.Reading.{readAs, trailerIn, classesIn, stationsIn, lotIn, startIn, column, grid, mapAt, reading}
 use Rattle.linemap.specs.RoundTrip.{Fits}
 use Rattle.linemap.specs.declared.Map.{Map}
 use Rattle.finite.proofs.Digits.{number-small}
@@ -67,8 +68,14 @@ read-fits s m byte e =
     let start = startIn s in
     let fits : Fits (mapAt s c k (lotIn s) start) =
     record {
-      lot = number-small s byte 4 _;
       counts = grid-small (2 ^ 32) (lit< tt) _ c k (λ i j. number-small s byte 4 (start + rowLength c * i + 4 * j));
       neighbours = column-small (2 ^ 64) (lit< tt) 64 _ k (λ i. number-small s byte 8 (start + rowLength c * i + 4 * c));
     } in
     subst Fits (read-facts s m e .is) fits
+
+pub read-lot : (s : List ℕ) (m : Map) → ((i : ℕ) → getD s i 0 < 2 ^ 8) → reading s ≡ readAs m → m .lot < 2 ^ 48
+read-lot s m byte e =
+    let low : number s (trailerIn s + 8) 4 < 2 ^ 32 = number-small s byte 4 _ in
+    let high : number s (trailerIn s + 6) 2 < 2 ^ 16 = number-small s byte 2 _ in
+    let small : lotIn s < 2 ^ 48 = omega arith in
+    subst (λ (n : Map). n .lot < 2 ^ 48) (read-facts s m e .is) small

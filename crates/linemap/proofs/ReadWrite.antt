@@ -2,7 +2,7 @@
 -- check word is the only one that takes the sum to zero. Assumes nothing.
 use mathlib.Core.Path.{_≡_, refl, sym, ap, _∙_}
 use mathlib.Core.List.{List, _++_}
-use Prim.Native.Nat.{ℕ, zero, suc, _+_, _*_, _-_, _%_, _^_, _≤_, _<_}
+use Prim.Native.Nat.{ℕ, zero, suc, _+_, _*_, _-_, _/_, _%_, _^_, _≤_, _<_}
 use native.Mathlib.Omega.{arith}
 use native.Mathlib.Nat.{mul-zero, mul-suc}
 use lib.ListN.{length, getD, take, drop, length-drop, take-append-drop}
@@ -81,12 +81,15 @@ module _ (s : List ℕ) (byte : (i : ℕ) → getD s i 0 < 2 ^ 8) {n : Map} (r :
   trailer-is =
       let t = start + w * k in
       let fits = r .fits in
+      let small : number s (trailerIn s + 8) 4 < 2 ^ 32 = number-small s byte 4 _ in
       join t 8 4
-      (join t 4 4
+      (join t 6 2
+      (join t 4 2
       (join t 2 2 (field 2 k (trailerIn s) t refl (omega arith) (omega arith))
       (field 2 w (trailerIn s + 2) (t + 2) (r .row) (omega arith) (omega arith)))
-      (field 4 (w * k) (trailerIn s + 4) (t + 4) (r .back) (omega arith) (omega arith)))
-      (field 4 (lotIn s) (trailerIn s + 8) (t + 8) refl (omega arith) (omega arith))
+      (field 2 (w * k) (trailerIn s + 4) (t + 4) (r .back) (omega arith) (omega arith)))
+      (field 2 (lotIn s / 2 ^ 32) (trailerIn s + 6) (t + 6) (omega arith) (omega arith) (omega arith)))
+      (field 4 (lotIn s % 2 ^ 32) (trailerIn s + 8) (t + 8) (omega arith) (omega arith) (omega arith))
 
   body-is : bodyOf m ≡ segment s start (w * k + 12)
   unfolding bodyOf

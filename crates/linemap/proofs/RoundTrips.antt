@@ -1,19 +1,24 @@
 -- Writing and reading undo each other: the claims of specs/RoundTrip. Assumes nothing.
 use mathlib.Core.Path.{_≡_, refl, ap, ap₂, _∙_}
 use mathlib.Core.List.{List, _++_}
-use Prim.Native.Nat.{ℕ, _-_, _<_}
+use Prim.Native.Nat.{ℕ, _-_, _≤_, _<_, _^_}
 use lib.ListN.{getD}
 use Rattle.finite.specs.Numbers.{bytes}
 use Rattle.linemap.specs.Words.{sumWords}
 use Rattle.finite.specs.Below.{each}
 use Rattle.topology.specs.Answer.{accepted, isAccepted}
 use Rattle.linemap.specs.Maps.{countAt, acceptance}
-use Rattle.linemap.specs.Stored.{rowLength, wordCount, countBytes, rowBytes, trailerBytes, bodyOf, storedOf, checkWord}
+use Rattle.linemap.specs.Stored.{rowLength, lengthOf, wordCount, countBytes, rowBytes, trailerBytes, bodyOf, storedOf, checkWord}
 use Rattle.linemap.specs.RoundTrip.{Equal, clearedOf, RoundTrips}
+use Rattle.linemap.specs.Reading.{readAs, reading}
+use Rattle.linemap.specs.Writing.{writeNumbers, writing}
 use Rattle.linemap.specs.declared.Map.{Map}
+use Rattle.linemap.specs.declared.WriteAnswer.the-variants.{Written}
 use Rattle.linemap.proofs.Each.{each-same, column-at, grid-at}
 use Rattle.aggregate.proofs.Laws.{class-count}
 use Rattle.linemap.proofs.Accepted.{map-classes}
+use Rattle.linemap.proofs.Fits.{read-lot}
+use Rattle.linemap.proofs.Rules.{read-facts, room-enough}
 use Rattle.linemap.proofs.WriteRead.{written-reads}
 use Rattle.linemap.proofs.ReadWrite.{read-writes}
 
@@ -50,6 +55,16 @@ equal-written m n e =
     ap₂ (λ (body : List ℕ) (words : ℕ). body ++ bytes 4 (checkWord (sumWords body 0 (words - 1))))
     (equal-bodies m n e) (ap₂ wordCount (e .classes) (e .k))
 
+read-writable : (s : List ℕ) (m : Map) → ((i : ℕ) → getD s i 0 < 2 ^ 8) → reading s ≡ readAs m → (n : ℕ) → lengthOf m ≤ n
+    → writing m n ≡ writeNumbers (Written (lengthOf m))
+read-writable s m byte e n room = room-enough m n (read-facts s m e .good) (read-lot s m byte e) room
+
 pub round-trips : RoundTrips
 round-trips =
-    record { written-reads = written-reads; cleared-equal = cleared-equal; equal-written = equal-written; read-writes = read-writes }
+    record {
+      written-reads = written-reads;
+      cleared-equal = cleared-equal;
+      equal-written = equal-written;
+      read-writable = read-writable;
+      read-writes = read-writes;
+    }

@@ -1,15 +1,15 @@
 -- Reading and writing rule by rule: what the reader's parts leave of a reading, what is left after 1 to 5, and what an accepted
--- reading went by; the three ways that writing ends. Assumes nothing.
+-- reading went by; the four ways that writing ends. Assumes nothing.
 use mathlib.Core.Path.{_≡_, refl, sym, ap, ap₂, _∙_}
 use mathlib.Core.Logic.{_⊎_, ⊎-elim}
 use mathlib.Core.Bool.{Bool, true, false, _&&_}
 use mathlib.Core.List.{List, _++_}
-use Prim.Native.Nat.{ℕ, _+_, _*_, _-_, _%_, _≤_, _<_}
+use Prim.Native.Nat.{ℕ, _+_, _*_, _-_, _%_, _^_, _≤_, _<_}
 use native.Mathlib.Nat.{mul-le-mul-left}
 use native.Mathlib.Omega.{arith}
 use lib.ListN.{length, drop}
 use lib.Dec.{leb, ltb, eqb}
-use borrow.Author.Tests.{le-leb, lt-leb, eq-eqb, ne-eqb, leb-true, leb-false, ltb-true, eqb-true}
+use borrow.Author.Tests.{le-leb, lt-leb, lt-ltb, le-ltb, eq-eqb, ne-eqb, leb-true, leb-false, ltb-true, eqb-true}
 use Rattle.finite.proofs.Cases.{clash, and-both}
 use Rattle.topology.specs.Answer.{isAccepted}
 use Rattle.finite.specs.Tests.{unless}
@@ -26,12 +26,12 @@ use Rattle.linemap.specs.Maps.{acceptance}
 use Rattle.linemap.specs.Stored.{rowLength, trailerLength, storedLength, lengthOf, wordCount, storedOf}
 use Rattle.linemap.specs.Reading.{readAs, ReadOutcome, readRefused, isRowLength, classesOf, mapAt, judged, reading}
 use Rattle.linemap.specs.Reading.{stationsIn, rowLengthIn, classesIn, distanceIn, lotIn, startIn}
-use Rattle.linemap.specs.Writing.{writeFaultNumbers, writeNumbers, writing, written}
+use Rattle.linemap.specs.Writing.{writeFaultNumbers, writeNumbers, isStorable, writing, written}
 use Rattle.linemap.specs.internal.Stages.{trailerOf, trailerAnswer, rowOf, rowsOutcome, put}
 use Rattle.linemap.specs.declared.Map.{Map}
 use Rattle.linemap.specs.declared.ReadFault.{ReadFault}
 use Rattle.linemap.specs.declared.ReadFault.the-variants.{Short, Distance, Rows, CheckWord, Unfit}
-use Rattle.linemap.specs.declared.WriteFault.the-variants.{Buffer}
+use Rattle.linemap.specs.declared.WriteFault.the-variants.{Lot, Buffer}
 use Rattle.linemap.specs.declared.WriteAnswer.the-variants.{Written}
 use Rattle.linemap.specs.declared.ReadAnswer.{ReadAnswer}
 use Rattle.linemap.specs.declared.ReadAnswer.the-variants as answer
@@ -229,7 +229,13 @@ read-facts s m e =
       is = judge-ok .1;
     }
 
--- the three ways that writing ends: the map is refused, the buffer is too short, the stored form is laid over its front
+-- an accepted map with a storable lot is written where there are the bytes for it
+pub room-enough : (m : Map) (n : ℕ) → isAccepted (acceptance m) ≡ true → m .lot < 2 ^ 48 → lengthOf m ≤ n
+    → writing m n ≡ writeNumbers (Written (lengthOf m))
+unfolding writing
+room-enough m n ok small room = rw (ok, lt-ltb (m .lot) (2 ^ 48) small, le-leb (lengthOf m) n room)
+
+-- the four ways that writing ends: the map is refused, its lot is too long, the buffer is too short, the stored form is laid over its front
 module _ (m : Map) (l : List ℕ) where
   pub unfit : (fault : Fault) → faultNumbers fault ≡ acceptance m → (faultNumbers fault ≡ writing m (length l)) × (l ≡ written m l)
   unfolding writing written
@@ -238,19 +244,25 @@ module _ (m : Map) (l : List ℕ) where
       (rw no told, rw (no, no))
 
   module _ (ok : isAccepted (acceptance m) ≡ true) where
-    pub too-short : (need : ℕ) → need ≡ lengthOf m → length l < need
-        → (writeFaultNumbers (Buffer need) ≡ writing m (length l)) × (l ≡ written m l)
+    pub long-lot : 2 ^ 48 ≤ m .lot → (writeFaultNumbers Lot ≡ writing m (length l)) × (l ≡ written m l)
     unfolding writing written
-    too-short need e far =
-        let no : leb (lengthOf m) (length l) ≡ false = lt-leb (lengthOf m) (length l) (omega arith) in
-        (rw (ok, no) (ap (λ (n : ℕ). writeFaultNumbers (Buffer n)) e), rw (ok, no))
+    long-lot far = let no : isStorable (m .lot) ≡ false = le-ltb (m .lot) (2 ^ 48) far in (rw (ok, no), rw (ok, no))
 
-    pub fills : (need : ℕ) (b : List ℕ) → need ≡ lengthOf m → need ≤ length l → b ≡ put l 0 (storedOf m)
-        → (writeNumbers (Written need) ≡ writing m (length l)) × (b ≡ written m l)
-    unfolding writing written
-    fills need b e room laid =
-        let yes : leb (lengthOf m) (length l) ≡ true = le-leb (lengthOf m) (length l) (omega arith) in (
-          rw (ok, yes) (ap (λ (n : ℕ). writeNumbers (Written n)) e),
-          rw (ok, yes) (laid ∙ put-front l (storedOf m) (omega (arith, length-stored m))
-              ∙ ap (λ (n : ℕ). storedOf m ++ drop n l) (length-stored m)),
-        )
+    module _ (small : m .lot < 2 ^ 48) where
+      pub too-short : (need : ℕ) → need ≡ lengthOf m → length l < need
+          → (writeFaultNumbers (Buffer need) ≡ writing m (length l)) × (l ≡ written m l)
+      unfolding writing written
+      too-short need e far =
+          let storable : isStorable (m .lot) ≡ true = lt-ltb (m .lot) (2 ^ 48) small in
+          let no : leb (lengthOf m) (length l) ≡ false = lt-leb (lengthOf m) (length l) (omega arith) in
+          (rw (ok, storable, no) (ap (λ (n : ℕ). writeFaultNumbers (Buffer n)) e), rw (ok, storable, no))
+
+      pub fills : (need : ℕ) (b : List ℕ) → need ≡ lengthOf m → need ≤ length l → b ≡ put l 0 (storedOf m)
+          → (writeNumbers (Written need) ≡ writing m (length l)) × (b ≡ written m l)
+      unfolding written
+      fills need b e room laid =
+          let told = room-enough m (length l) ok small (omega arith) in (
+            ap (λ (n : ℕ). writeNumbers (Written n)) e ∙ sym told,
+            rw told (laid ∙ put-front l (storedOf m) (omega (arith, length-stored m))
+                ∙ ap (λ (n : ℕ). storedOf m ++ drop n l) (length-stored m)),
+          )

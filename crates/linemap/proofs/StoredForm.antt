@@ -2,7 +2,7 @@
 -- those of the body. Assumes nothing.
 use mathlib.Core.Path.{_≡_, ap, _∙_}
 use mathlib.Core.List.{List, _++_}
-use Prim.Native.Nat.{ℕ, _+_, _*_, _-_, _≤_}
+use Prim.Native.Nat.{ℕ, _+_, _*_, _-_, _/_, _%_, _^_, _≤_}
 use native.Mathlib.Omega.{arith}
 use lib.ListN.{length, drop, length-append}
 use Rattle.finite.specs.Numbers.{bytes}
@@ -29,18 +29,20 @@ length-trailer : (w k lot : ℕ) → length (trailerBytes w k lot) ≡ trailerLe
 unfolding trailerBytes
 length-trailer w k lot = simp (length-append, length-bytes)
 
-pub trailer-laid : {stations row back whole : List ℕ} (l : List ℕ) (w k lot : ℕ)
+pub trailer-laid : {stations row back high whole : List ℕ} (l : List ℕ) (w k lot : ℕ)
     → stations ≡ put l (w * k) (bytes 2 k)
     → row ≡ put stations (w * k + 2) (bytes 2 w)
-    → back ≡ put row (w * k + 4) (bytes 4 (w * k))
-    → whole ≡ put back (w * k + 8) (bytes 4 lot)
+    → back ≡ put row (w * k + 4) (bytes 2 (w * k))
+    → high ≡ put back (w * k + 6) (bytes 2 (lot / 2 ^ 32))
+    → whole ≡ put high (w * k + 8) (bytes 4 (lot % 2 ^ 32))
     → whole ≡ put l (w * k) (trailerBytes w k lot)
 unfolding trailerBytes
-trailer-laid l w k lot to-stations to-row to-back to-lot =
+trailer-laid l w k lot to-stations to-row to-back to-high to-low =
     let t = w * k in
     let two = lay l t (bytes 2 k) (bytes 2 w) (t + 2) to-stations to-row (simp length-bytes) in
-    let three = lay l t _ (bytes 4 t) (t + 4) two to-back (simp (length-append, length-bytes)) in
-    lay l t _ (bytes 4 lot) (t + 8) three to-lot (simp (length-append, length-bytes))
+    let three = lay l t _ (bytes 2 t) (t + 4) two to-back (simp (length-append, length-bytes)) in
+    let four = lay l t _ (bytes 2 (lot / 2 ^ 32)) (t + 6) three to-high (simp (length-append, length-bytes)) in
+    lay l t _ (bytes 4 (lot % 2 ^ 32)) (t + 8) four to-low (simp (length-append, length-bytes))
 
 module _ (m : Map) where
   abbrev c : ℕ

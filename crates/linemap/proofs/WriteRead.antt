@@ -3,7 +3,7 @@
 use mathlib.Core.Path.{_≡_, sym, ap, ap₂, _∙_}
 use mathlib.Core.Bool.{true}
 use mathlib.Core.List.{List, _++_, append-assoc}
-use Prim.Native.Nat.{ℕ, suc, _+_, _*_, _-_, _%_, _^_, _≤_, _<_}
+use Prim.Native.Nat.{ℕ, suc, _+_, _*_, _-_, _/_, _%_, _^_, _≤_, _<_}
 use native.Mathlib.Nat.{mod-eq-of-lt, mul-le-mul-right}
 use native.Mathlib.Omega.{arith}
 use lib.ListN.{length, getD, length-append}
@@ -17,7 +17,7 @@ use Rattle.linemap.specs.Words.{sumWords}
 use Rattle.finite.specs.Below.{each}
 use Rattle.linemap.specs.Maps.{configOf, acceptance, place, countAt}
 use Rattle.linemap.specs.Stored.{rowLength, lengthOf, wordCount, countBytes, rowBytes, trailerBytes, bodyOf, storedOf, checkWord}
-use Rattle.linemap.specs.Reading.{readAs, stationsIn, rowLengthIn, distanceIn, lotIn, mapAt, judged, reading}
+use Rattle.linemap.specs.Reading.{readAs, trailerIn, stationsIn, rowLengthIn, distanceIn, lotIn, mapAt, judged, reading}
 use Rattle.linemap.specs.RoundTrip.{Fits, clearedOf}
 use Rattle.linemap.specs.declared.Map.{Map}
 use Rattle.linemap.proofs.Accepted.{map-classes, map-web, map-accepted}
@@ -52,6 +52,13 @@ module _ (m : Map) where
   abbrev check : ℕ
   check = checkWord (sumWords (bodyOf m) 0 (wordCount c (m .k) - 1))
 
+  -- the two parts of the lot
+  abbrev high : List ℕ
+  high = bytes 2 (m .lot / 2 ^ 32)
+
+  abbrev low : List ℕ
+  low = bytes 4 (m .lot % 2 ^ 32)
+
   -- all the words add to zero
   sum-zero : sumWords (storedOf m) 0 (wordCount c (m .k)) ≡ 0
   unfolding sumWords storedOf
@@ -67,14 +74,14 @@ module _ (m : Map) where
       ∙ ap₂ (λ (x y : ℕ). (x + y) % 2 ^ 32) (front-sum body (bytes 4 check) n 0 (omega (arith, length-body m))) check-read
       ∙ check-zero (sumWords body 0 n) (sum-small body 0 n)
 
-  module _ (fits : Fits m) (ok : acceptance m ≡ accepted) (before : List ℕ) where
+  module _ (fits : Fits m) (lot-small : m .lot < 2 ^ 48) (ok : acceptance m ≡ accepted) (before : List ℕ) where
     web : Web (rootOf (configOf m)) (m .k) (m .neighbours)
     web = map-web m (ap isAccepted ok)
 
     classes : isClassCount c ≡ true
     classes = map-classes m (ap isAccepted ok)
 
-    -- the distance is a number of four bytes
+    -- the distance is a number of two bytes
     near : w * m .k ≤ 40 * m .k
     near = mul-le-mul-right (m .k) (let least = class-count c classes in let short : w ≤ 40 = omega arith in short)
 
@@ -94,28 +101,37 @@ module _ (m : Map) where
     stations-are : stationsIn whole ≡ m .k
     unfolding storedOf bodyOf trailerBytes
     stations-are =
-        field rows (bytes 2 w ++ (bytes 4 (w * m .k) ++ (bytes 4 (m .lot) ++ bytes 4 check))) 2 (m .k) _
+        field rows (bytes 2 w ++ (bytes 2 (w * m .k) ++ (high ++ (low ++ bytes 4 check)))) 2 (m .k) _
         (simp append-assoc) (omega (arith, len, length-rows m (m .k))) (omega (arith, web .few-stations))
 
     row-is : rowLengthIn whole ≡ w
     unfolding storedOf bodyOf trailerBytes
     row-is =
-        field (rows ++ bytes 2 (m .k)) (bytes 4 (w * m .k) ++ (bytes 4 (m .lot) ++ bytes 4 check)) 2 w _
+        field (rows ++ bytes 2 (m .k)) (bytes 2 (w * m .k) ++ (high ++ (low ++ bytes 4 check))) 2 w _
         (simp append-assoc) (simp (length-append, length-bytes) (omega (arith, len, length-rows m (m .k))))
         (omega (arith, class-count c classes))
 
     distance-is : distanceIn whole ≡ w * m .k
     unfolding storedOf bodyOf trailerBytes
     distance-is =
-        field (rows ++ (bytes 2 (m .k) ++ bytes 2 w)) (bytes 4 (m .lot) ++ bytes 4 check) 4 (w * m .k) _
+        field (rows ++ (bytes 2 (m .k) ++ bytes 2 w)) (high ++ (low ++ bytes 4 check)) 2 (w * m .k) _
         (simp append-assoc) (simp (length-append, length-bytes) (omega (arith, len, length-rows m (m .k))))
         (omega (arith, near, web .few-stations))
 
-    lot-is : lotIn whole ≡ m .lot
+    high-is : number whole (trailerIn whole + 6) 2 ≡ m .lot / 2 ^ 32
     unfolding storedOf bodyOf trailerBytes
-    lot-is =
-        field (rows ++ (bytes 2 (m .k) ++ (bytes 2 w ++ bytes 4 (w * m .k)))) (bytes 4 check) 4 (m .lot) _
-        (simp append-assoc) (simp (length-append, length-bytes) (omega (arith, len, length-rows m (m .k)))) (fits .lot)
+    high-is =
+        field (rows ++ (bytes 2 (m .k) ++ (bytes 2 w ++ bytes 2 (w * m .k)))) (low ++ bytes 4 check) 2 (m .lot / 2 ^ 32) _
+        (simp append-assoc) (simp (length-append, length-bytes) (omega (arith, len, length-rows m (m .k)))) (omega arith)
+
+    low-is : number whole (trailerIn whole + 8) 4 ≡ m .lot % 2 ^ 32
+    unfolding storedOf bodyOf trailerBytes
+    low-is =
+        field (rows ++ (bytes 2 (m .k) ++ (bytes 2 w ++ (bytes 2 (w * m .k) ++ high)))) (bytes 4 check) 4 (m .lot % 2 ^ 32) _
+        (simp append-assoc) (simp (length-append, length-bytes) (omega (arith, len, length-rows m (m .k)))) (omega arith)
+
+    lot-is : lotIn whole ≡ m .lot
+    lot-is = omega (arith, high-is, low-is)
 
     sum-is : sumWords whole (length before) (wordCount c (m .k)) ≡ 0
     sum-is = past-sum before (storedOf m) (wordCount c (m .k)) 0 (length before) (omega arith) ∙ sum-zero

@@ -1,8 +1,8 @@
 -- What reading gives (document 01, "The line map" and "Causes and numbers": "Reading goes 1 to 10"; document 02, request 2: c counts in a
--- row).
+-- row; request 4: longer lots).
 use mathlib.Core.Bool.{Bool, _&&_}
 use mathlib.Core.List.{List, [], _∷_, _++_}
-use Prim.Native.Nat.{ℕ, _+_, _*_, _-_, _/_, _%_}
+use Prim.Native.Nat.{ℕ, _+_, _*_, _-_, _/_, _%_, _^_}
 use lib.ListN.{length, replicate}
 use lib.Dec.{leb, eqb}
 use Rattle.topology.specs.Answer.{accepted, isAccepted}
@@ -81,13 +81,13 @@ classesOf w = (w - 8) / 4
 abbrev pub classesIn : List ℕ → ℕ
 classesIn s = classesOf (rowLengthIn s)
 
--- "distance back .. (4)"
+-- "it keeps the lower 2 bytes of its field"; 4 "tests the lower half only" (document 02, request 4)
 abbrev pub distanceIn : List ℕ → ℕ
-distanceIn s = number s (trailerIn s + 4) 4
+distanceIn s = number s (trailerIn s + 4) 2
 
--- "lot (4)"
+-- "lot (4)"; "The upper 2 bytes become bits 32 to 47 of the lot" (document 02, request 4)
 abbrev pub lotIn : List ℕ → ℕ
-lotIn s = number s (trailerIn s + 8) 4
+lotIn s = number s (trailerIn s + 8) 4 + 2 ^ 32 * number s (trailerIn s + 6) 2
 
 -- where the first row starts; "what stands before it is not read"
 abbrev pub startIn : List ℕ → ℕ

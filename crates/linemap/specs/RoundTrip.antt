@@ -2,17 +2,18 @@
 -- lot and all places below k"; document 02, request 2: "Equal maps agree in c too"). `round-trips` (proofs/RoundTrips) proves both halves.
 use mathlib.Core.Path.{_≡_}
 use mathlib.Core.List.{List, _++_}
-use Prim.Native.Nat.{ℕ, _-_, _<_, _^_}
+use Prim.Native.Nat.{ℕ, _-_, _≤_, _<_, _^_}
 use lib.ListN.{length, getD, drop}
 use Rattle.topology.specs.Answer.{accepted}
 use Rattle.linemap.specs.Maps.{countAt, acceptance}
 use Rattle.linemap.specs.Stored.{lengthOf, storedOf}
 use Rattle.linemap.specs.Reading.{readAs, column, grid, reading}
+use Rattle.linemap.specs.Writing.{writeNumbers, writing}
 use Rattle.linemap.specs.declared.Map.{Map}
+use Rattle.linemap.specs.declared.WriteAnswer.the-variants.{Written}
 
--- each number fits its field, as in every map that code holds
+-- counts and sets fit their fields, as in every map that code holds; the lot may be any number
 pub record Fits (m : Map) : Type 0 where
-  pub lot : m .lot < 2 ^ 32
   pub counts : (p : ℕ) → getD (m .counts) p 0 < 2 ^ 32
   pub neighbours : (i : ℕ) → getD (m .neighbours) i 0 < 2 ^ 64
 
@@ -33,13 +34,17 @@ clearedOf m =
 
 -- "the bytes it fills are what reads back. Equal maps agree in k, lot and all places below k" (The line map)
 pub record RoundTrips : Type 0 where
-  -- what is written reads back, whatever stands before it: the same k, c and lot, the same places below them, zero above
-  pub written-reads : (m : Map) → Fits m → acceptance m ≡ accepted → (before : List ℕ)
+  -- what is written reads back, whatever stands before it: the same k, c and lot, the same places below them, zero above; "a lot of 2^48 or
+  -- more" is not written (document 02, request 4)
+  pub written-reads : (m : Map) → Fits m → m .lot < 2 ^ 48 → acceptance m ≡ accepted → (before : List ℕ)
       → reading (before ++ storedOf m) ≡ readAs (clearedOf m)
   -- which is a map equal to the one written
   pub cleared-equal : (m : Map) → acceptance m ≡ accepted → Equal (clearedOf m) m
   -- equal maps are written the same
   pub equal-written : (m n : Map) → Equal m n → storedOf m ≡ storedOf n
-  -- what is read is written back as the bytes it was read from
+  -- what is read can be written, given the bytes for it
+  pub read-writable : (s : List ℕ) (m : Map) → ((i : ℕ) → getD s i 0 < 2 ^ 8) → reading s ≡ readAs m → (n : ℕ) → lengthOf m ≤ n
+      → writing m n ≡ writeNumbers (Written (lengthOf m))
+  -- and is written back as the bytes it was read from
   pub read-writes : (s : List ℕ) (m : Map) → ((i : ℕ) → getD s i 0 < 2 ^ 8) → reading s ≡ readAs m
       → storedOf m ≡ drop (length s - lengthOf m) s

@@ -1,4 +1,5 @@
--- The stored form of a line map (document 01, "The line map", second paragraph; document 02, request 2: c counts in a row).
+-- The stored form of a line map (document 01, "The line map", second paragraph; document 02, request 2: c counts in a row;
+-- request 4: longer lots).
 use mathlib.Core.List.{List, _++_}
 use Prim.Native.Nat.{ℕ, _+_, _*_, _-_, _/_, _%_, _^_}
 use lib.ListN.{getD}
@@ -37,9 +38,10 @@ unfoldable pub rowBytes : ℕ → List ℕ → List ℕ → ℕ → List ℕ
 rowBytes c counts neighbours i = countBytes c counts i ++ bytes 8 (getD neighbours i 0)
 
 -- the trailer, but for the check word: "k (2 bytes), row length 12 (2), distance back from the trailer's first byte to the first
--- row, 12 × k (4), lot (4)", for rows of w bytes: "the distance back is the row length times k" (document 02, request 2)
+-- row", for rows of w bytes "the row length times k" (document 02, request 2), which "keeps the lower 2 bytes of its field. The upper 2
+-- bytes become bits 32 to 47 of the lot" (request 4), "lot (4)"
 unfoldable pub trailerBytes : ℕ → ℕ → ℕ → List ℕ
-trailerBytes w k lot = bytes 2 k ++ bytes 2 w ++ bytes 4 (w * k) ++ bytes 4 lot
+trailerBytes w k lot = bytes 2 k ++ bytes 2 w ++ bytes 2 (w * k) ++ bytes 2 (lot / 2 ^ 32) ++ bytes 4 (lot % 2 ^ 32)
 
 -- all but the check word
 unfoldable pub bodyOf : Map → List ℕ

@@ -23,6 +23,9 @@ const SET_LENGTH: usize = 8;
 
 const TRAILER_LENGTH: usize = 16;
 
+// A stored lot has 48 bits, so it is below this.
+const LOT_LIMIT: u64 = 281474976710656;
+
 // The places that a station has among the counts.
 const PLACES: usize = 8;
 
@@ -32,7 +35,7 @@ const PLACES: usize = 8;
 pub struct Map {
     pub k: u8,
     pub classes: u8,
-    pub lot: u32,
+    pub lot: u64,
     pub counts: [u32; 512],
     pub neighbours: [u64; 64],
 }
@@ -64,6 +67,8 @@ pub struct MapRead {
 // Why no map is written.
 pub enum WriteFault {
     Unfit(Fault),
+    // The lot is too long for its bytes.
+    Lot,
     // The buffer is too short: the length needed.
     Buffer(usize),
 }
@@ -164,6 +169,9 @@ pub fn write(m: Map, buf: &mut [u8]) -> WriteAnswer
     let verdict = accept(m);
     if let Verdict::Refused(fault) = verdict {
         return WriteAnswer::Refused(WriteFault::Unfit(fault));
+    }
+    if LOT_LIMIT <= m.lot {
+        return WriteAnswer::Refused(WriteFault::Lot);
     }
     let need = stored_length(m.classes, m.k);
     if buf.len() < need {

@@ -20,7 +20,7 @@ pub(crate) enum TrailerRead {
         stations: u64,
         row_length: u64,
         distance: u64,
-        lot: u32,
+        lot: u64,
     },
     // There are fewer bytes than a trailer has.
     Short,
@@ -45,8 +45,8 @@ pub(crate) fn read_trailer(s: &[u8]) -> TrailerRead
     TrailerRead::Fields {
         stations: get(s, t, 2),
         row_length: get(s, t + 2, 2),
-        distance: get(s, t + 4, 4),
-        lot: get(s, t + 8, 4) as u32,
+        distance: get(s, t + 4, 2),
+        lot: get(s, t + 8, 4) + 4294967296 * get(s, t + 6, 2),
     }
 }
 
@@ -136,7 +136,7 @@ fn judge(m: Map) -> MapRead
 }
 
 // The map of the k rows before the trailer: the rules 5 to 10.
-pub(crate) fn read_rows(s: &[u8], classes: u8, k: u8, lot: u32) -> MapRead
+pub(crate) fn read_rows(s: &[u8], classes: u8, k: u8, lot: u64) -> MapRead
     requires { ⌜ (1 ≤ classes) × (classes ≤ 8) × (0 < k) × (k ≤ 64) ⌝ }
     ensures { λ r. ⌜ Reading.readOutcomeOf r ≡ Stages.rowsOutcome (now (s .entry)) classes k lot ⌝ }
 {

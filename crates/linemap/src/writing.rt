@@ -51,15 +51,16 @@ fn put_rows(m: Map, buf: &mut [u8])
 }
 
 // The trailer, but for the check word.
-fn put_trailer(buf: &mut [u8], width: usize, k: usize, lot: u32)
+fn put_trailer(buf: &mut [u8], width: usize, k: usize, lot: u64)
     requires { ⌜ width * k + trailerLength ≤ length (now buf) ⌝ }
     ensures { λ _. ⌜ now (buf .exit) ≡ Stages.put (now (buf .entry)) (width * k) (trailerBytes width k lot) ⌝ }
 {
     let t = width * k;
     put(buf, t, 2, k as u64);
     put(buf, t + 2, 2, width as u64);
-    put(buf, t + 4, 4, t as u64);
-    put(buf, t + 8, 4, lot as u64);
+    put(buf, t + 4, 2, t as u64);
+    put(buf, t + 6, 2, lot / 4294967296);
+    put(buf, t + 8, 4, lot % 4294967296);
 }
 
 // What takes a sum to zero.

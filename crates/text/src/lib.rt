@@ -16,7 +16,7 @@ pub enum Line {
     Answer(u8, u8),
     // The root (01: the desk).
     Report(u8),
-    Closing { lot: u32, steps: u64, links: u32 },
+    Closing { lot: u64, steps: u64, links: u32 },
     Refused(u8),
     RefusedStation(u8, u8),
 }
@@ -119,7 +119,7 @@ fn put_words(buf: &mut [u8], line: Line, t: Config, v: Aggregate) -> usize
             put_aggregate(buf, end, t, v)
         }
         Line::Closing { lot, steps, links } => {
-            let end = put_two(buf, 0, b"lot ", lot as u64, b" steps ", steps);
+            let end = put_two(buf, 0, b"lot ", lot, b" steps ", steps);
             put_item(buf, end, b" links ", links as u64)
         }
         Line::Refused(number) => put_item(buf, 0, b"refused ", number as u64),

@@ -1,5 +1,5 @@
 //! Document 01's "Edges" and its example of the program's output, with the lines and the largest total of document 02,
-//! request 1, and the edges of requests 1 and 2, for any subject.
+//! request 1, and the edges of requests 1, 2 and 4, for any subject.
 
 use crate::calls::{MapCalls, NetCalls, StationCalls};
 use crate::gen::map::all_linked;
@@ -60,7 +60,7 @@ const LARGEST_TOTAL: u64 = 274_877_906_816;
 /// The counts of a station, and its set.
 type Row<const C: usize> = ([u32; C], u64);
 
-fn map_of<const C: usize>(lot: u32, rows: &[Row<C>]) -> Map {
+fn map_of<const C: usize>(lot: u64, rows: &[Row<C>]) -> Map {
     let mut map = Map::empty(rows.len() as u8, C as u8, lot);
     for (i, &(counts, neighbours)) in rows.iter().enumerate() {
         map.counts[i][..C].copy_from_slice(&counts);
@@ -212,6 +212,7 @@ pub fn maps(subject: &impl MapCalls) {
     is_stored(subject, &three_classes(), 76, 4_293_656_431);
     class_counts_handed_over(subject);
     row_lengths(subject);
+    lots(subject);
     sizes(subject);
 }
 
@@ -272,6 +273,29 @@ fn row_lengths(subject: &impl MapCalls) {
                 assert_eq!(read(subject, &bytes[1..]), Err(Cause::RowsMissing.alone()));
             }
         }
+    }
+}
+
+/// The triangle with a lot: bits 32 to 47 in the upper half of the distance's field, and "18 when a map handed over for
+/// writing has a lot of 2^48 or more, after 10 and before 15". No other call looks at it.
+fn lots(subject: &impl MapCalls) {
+    for lot in [0, 42, 4_294_967_295, 4_294_967_296, 281_474_976_710_655] {
+        let map = Map { lot, ..triangle() };
+        let mut buffer = [0; 52];
+        assert_eq!(subject.write(&map, &mut buffer), Ok(52));
+        let bytes = lot.to_le_bytes();
+        assert_eq!(buffer[40..48], [&[36, 0], &bytes[4..6], &bytes[..4]].concat(), "lot {lot}");
+        assert_eq!(read(subject, &buffer), Ok(map));
+    }
+    for lot in [281_474_976_710_656, u64::MAX] {
+        let map = Map { lot, ..triangle() };
+        for length in [0, 51, 52] {
+            let mut buffer = [0xa5; 52];
+            assert_eq!(subject.write(&map, &mut buffer[..length]), Err(Cause::LotTooLong.alone()));
+            assert_eq!(buffer, [0xa5; 52], "a refusal leaves the buffer");
+        }
+        assert_eq!((subject.accept(&map), subject.links(&map)), (Ok(()), Ok(3)));
+        refused(subject, &map_of(lot, &[([0], 0), ([0], 0)]), Cause::NoChain.with(1));
     }
 }
 
@@ -476,7 +500,7 @@ fn check_order<const C: usize>(subject: &impl NetCalls<Meet>, map: &Map, draws: 
     }
 }
 
-/// The program, for the inputs that document 01 names, for heads without a reading, and for several classes.
+/// The program, for the inputs that document 01 names, for heads without a reading, for several classes, and for long lots.
 pub fn program(output: impl Fn(&[u8]) -> Vec<u8>) {
     let prints = |draws: &[u16], map: &Map, text: &str| {
         let input: Vec<u8> = draws.iter().flat_map(|draw| draw.to_le_bytes()).chain(stored(map)).collect();
@@ -487,6 +511,8 @@ pub fn program(output: impl Fn(&[u8]) -> Vec<u8>) {
     prints(&[0; 6], &triangle(), &TRIANGLE_OUTPUT.replace("report 0 23 0\n", "").replace("steps 7", "steps 6"));
     prints(&[], &triangle(), "lot 42 steps 0 links 3\n");
     prints(&[0], &alone(), "report 0 9 0\nlot 1 steps 1 links 0\n");
+    prints(&[], &Map { lot: 4_294_967_296, ..triangle() }, "lot 4294967296 steps 0 links 3\n");
+    prints(&[], &Map { lot: 281_474_976_710_655, ..triangle() }, "lot 281474976710655 steps 0 links 3\n");
     prints(&[0; 3], &pair(), "wake 0 1\nanswer 1 0 4 0\nreport 0 7 0\nlot 2 steps 3 links 1\n");
     prints(&[0; 7], &lamp_failed(), LAMP_FAILED_OUTPUT);
     prints(&[0; 7], &two_classes(), TWO_CLASSES_OUTPUT);

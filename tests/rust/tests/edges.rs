@@ -1,4 +1,4 @@
-//! Document 01's examples on the model, those marked * too, and the edges of document 02, requests 1 and 2.
+//! Document 01's examples on the model, those marked * too, and the edges of document 02, requests 1, 2 and 4.
 
 use conformance::calls::Model;
 use conformance::edges;

@@ -67,7 +67,7 @@ pass 2 1
 answer 1 0 7 0 1 0 0 1
 answer 2 0 11 0 3 0 0 1
 report 0 23 0 4 1 2 2
-lot 42 steps 7 links 3
+lot 281474976710655 steps 7 links 3
 ";
     assert_eq!(text::output(&bytes(&in_repository("examples/three_classes.txt"))), three_classes);
 }
@@ -82,6 +82,7 @@ fn no_description() {
         ("station 5,6 1,2\n", "1: a neighbour is a number from 0 to 63, not '1,2'"),
         ("station\n", "1: a station has a count"),
         ("lot 42\n", "1: no station"),
+        ("lot 281474976710656\n", "1: the lot is a number from 0 to 281474976710655, not '281474976710656'"),
     ];
     for (lines, what) in wrong {
         let path = described("wrong.txt", lines);

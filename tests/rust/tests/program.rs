@@ -2,7 +2,7 @@
 
 use conformance::compare::program::{inputs, length_limit, run, Left, Program};
 use conformance::edges;
-use conformance::model::map::{stored, Map};
+use conformance::model::map::{stored, Map, LOT_LIMIT};
 use conformance::model::text::output;
 use conformance::model::{CLASSES, MOST_CLASSES, PLACES};
 use std::os::unix::process::ExitStatusExt;
@@ -37,7 +37,7 @@ fn tally() -> Program {
 /// Document 01's example, one station with all classes, and an input that is refused.
 fn samples() -> [Vec<u8>; 3] {
     let example = fs::read(in_repository("examples/triangle.bin")).expect("the example is read");
-    let alone = Map { counts: [[u32::MAX - 1; CLASSES]; PLACES], ..Map::empty(1, MOST_CLASSES, u32::MAX) };
+    let alone = Map { counts: [[u32::MAX - 1; CLASSES]; PLACES], ..Map::empty(1, MOST_CLASSES, LOT_LIMIT - 1) };
     [example, [vec![0; 2], stored(&alone)].concat(), vec![7; 40]]
 }
 

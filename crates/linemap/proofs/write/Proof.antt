@@ -1,6 +1,7 @@
 -- `linemap::write` meets its contract: one law of `writing` and `written` for each way it ends. Assumes nothing.
 use mathlib.Core.Path.{_≡_, sym, ap, _∙_}
 use mathlib.Core.Bool.{true}
+use Prim.Native.Nat.{_^_, _<_}
 use native.Mathlib.Omega.{arith}
 use borrow.Author.Needs.{needs}
 use Rattle.topology.specs.Answer.{isAccepted}
@@ -8,12 +9,15 @@ use Rattle.topology.specs.Acceptance.{faultNumbers, verdictNumbers}
 use Rattle.linemap.specs.Maps.{acceptance}
 use Rattle.linemap.proofs.Accepted.{map-classes, map-web}
 use Rattle.aggregate.proofs.Laws.{class-count}
-use Rattle.linemap.proofs.Rules.{unfit, too-short, fills}
+use Rattle.linemap.proofs.Rules.{unfit, long-lot, too-short, fills}
 use Rattle.linemap.proofs.write.Statement.{statement}
 use Rattle.linemap.proofs.write.Tie as tie
 
 is-accepted : (c : tie.After-enum-told) → isAccepted (acceptance (c .before .before .before .before .args .m)) ≡ true
 is-accepted c = ap isAccepted (sym (c .before .before .accept .ensures) ∙ ap verdictNumbers (c .enum-told .given .1))
+
+storable : (c : tie.Else1) → c .before .before .before .before .before .before .args .m .lot < 2 ^ 48
+storable c = omega (arith, c .if1 .left)
 
 accept-requires : tie.Need-accept-requires
 accept-requires c κs = search needs
@@ -36,23 +40,29 @@ stored-length-requires : tie.Need-stored-length-requires
 stored-length-requires c κs = search needs
 
 returns-2 : tie.Need-returns-2
-returns-2 c = too-short _ _ (is-accepted (c .before .before)) _ (c .before .stored-length .ensures) (c .if1 .taken)
+returns-2 c = long-lot _ _ (is-accepted (c .before .before)) (c .if1 .taken)
+
+returns-3 : tie.Need-returns-3
+returns-3 c =
+    too-short _ _ (is-accepted (c .before .before .before .before)) (storable (c .before .before)) _
+    (c .before .stored-length .ensures) (c .if2 .taken)
 
 put-map-requires : tie.Need-put-map-requires
 put-map-requires c κs =
-    let start = c .before .before .before .before .before .before .before in
+    let start = c .before .before .before .before .before .before .before .before .before in
     let m = start .args .m in
-    let ok = is-accepted (c .before .before .before) in
+    let ok = is-accepted (c .before .before .before .before .before) in
     (class-count (m .classes) (map-classes m ok) .1, map-web m ok .few-stations, omega (arith, c .before .before .stored-length .ensures))
 
 same-length : tie.Need-same-length
 same-length c = search needs
 
-returns-3 : tie.Need-returns-3
-returns-3 c =
-    fills _ _ (is-accepted (c .before .before .before .before .before .before)) _ _
+returns-4 : tie.Need-returns-4
+returns-4 c =
+    fills _ _ (is-accepted (c .before .before .before .before .before .before .before .before))
+    (storable (c .before .before .before .before .before .before)) _ _
     (c .before .before .before .before .before .stored-length .ensures)
-    (c .before .before .before .before .if1 .left)
+    (c .before .before .before .before .if2 .left)
     (c .before .before .put-map .ensures)
 
 pub write-spec : {M : Type 1} → statement M
@@ -63,8 +73,9 @@ write-spec =
     enum-known-verdict
     returns
     enum-told
-    stored-length-requires
     returns-2
+    stored-length-requires
+    returns-3
     put-map-requires
     same-length
-    returns-3)
+    returns-4)

@@ -15,7 +15,6 @@ map-fits : (c : tie.Start) → Fits (c .args .m)
 map-fits c =
     let fields = c .good .1 .0 .1 .1 .1 .1 in
     record {
-      lot = fields .0 .1;
       counts = elements-fit w32 (c .args .m .counts) (fields .1 .0 .0) (fields .1 .0 .1 .1);
       neighbours = elements-fit w64 (c .args .m .neighbours) (fields .1 .1 .0 .0) (fields .1 .1 .0 .1 .1);
     }

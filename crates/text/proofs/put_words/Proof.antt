@@ -97,9 +97,6 @@ enum-known-line-5 c = search needs
 slice-aggregate-put-two-7 : tie.Need-slice-aggregate-put-two-7
 slice-aggregate-put-two-7 c = search needs
 
-cast-put-two-7 : tie.Need-cast-put-two-7
-cast-put-two-7 c = search needs
-
 slice-aggregate-put-two-8 : tie.Need-slice-aggregate-put-two-8
 slice-aggregate-put-two-8 c = search needs
 
@@ -138,14 +135,14 @@ enum-known-line-7 c = search needs
 slice-aggregate-put-two-9 : tie.Need-slice-aggregate-put-two-9
 slice-aggregate-put-two-9 c = search needs
 
-cast-put-two-8 : tie.Need-cast-put-two-8
-cast-put-two-8 c = search needs
+cast-put-two-7 : tie.Need-cast-put-two-7
+cast-put-two-7 c = search needs
 
 slice-aggregate-put-two-10 : tie.Need-slice-aggregate-put-two-10
 slice-aggregate-put-two-10 c = search needs
 
-cast-put-two-9 : tie.Need-cast-put-two-9
-cast-put-two-9 c = search needs
+cast-put-two-8 : tie.Need-cast-put-two-8
+cast-put-two-8 c = search needs
 
 put-two-requires-5 : tie.Need-put-two-requires-5
 put-two-requires-5 c κs =
@@ -229,7 +226,6 @@ put-words-spec =
     put-aggregate-requires-2
     enum-known-line-5
     slice-aggregate-put-two-7
-    cast-put-two-7
     slice-aggregate-put-two-8
     put-two-requires-4
     slice-aggregate-put-item-2
@@ -241,9 +237,9 @@ put-words-spec =
     put-item-requires-3
     enum-known-line-7
     slice-aggregate-put-two-9
-    cast-put-two-8
+    cast-put-two-7
     slice-aggregate-put-two-10
-    cast-put-two-9
+    cast-put-two-8
     put-two-requires-5
     same-length
     returns

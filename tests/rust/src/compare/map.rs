@@ -23,10 +23,12 @@ pub fn reading(subject: &impl MapCalls, count: u64) {
         seen.note("read", number(&expected));
         if expected.is_ok() {
             seen.note("classes read", due.classes);
+            seen.note("long lots read", (due.lot >> 32 > 0).into());
         }
     });
     seen.require("read", 0..=10);
     seen.require("classes read", 1..=MOST_CLASSES);
+    seen.require("long lots read", 0..=1);
 }
 
 pub fn handing_over(subject: &impl MapCalls, count: u64) {
@@ -40,7 +42,7 @@ pub fn handing_over(subject: &impl MapCalls, count: u64) {
         write(subject, rng, &map, &mut seen);
     });
     seen.require("accept", [0, 2, 3, 7, 8, 9, 10]);
-    seen.require("write", [0, 2, 3, 7, 8, 9, 10, 15]);
+    seen.require("write", [0, 2, 3, 7, 8, 9, 10, 15, 18]);
     seen.require("classes written", 1..=MOST_CLASSES);
 }
 

@@ -7,7 +7,7 @@ use crate::gen::map::{accepted, accepted_of, all_linked_mixed, handed_over};
 use crate::gen::net::{any, junk, Sample};
 use crate::model::aggregate::Aggregate;
 use crate::model::demand::{check_run_formula, Record};
-use crate::model::map::Map;
+use crate::model::map::{Map, LOT_LIMIT};
 use crate::model::net::Net;
 use crate::model::refusal::number;
 use crate::model::{MOST_CLASSES, MOST_STATIONS};
@@ -79,6 +79,7 @@ fn fresh<N: Sample>(subject: &impl NetCalls<N>, rng: &mut Rng, map: &Map, seen: 
     seen.note("fresh", number(&expected));
     if expected.is_ok() {
         seen.note("classes opened", map.classes);
+        seen.note("unstorable lots opened", (map.lot >= LOT_LIMIT).into());
     }
     given
 }
@@ -92,6 +93,7 @@ pub fn freshness<N: Sample>(subject: &impl NetCalls<N>, count: u64) {
     });
     seen.require("fresh", [0, 2, 3, 7, 8, 9, 10]);
     seen.require("classes opened", 1..=MOST_CLASSES);
+    seen.require("unstorable lots opened", 0..=1);
 }
 
 /// Draws of a run on any net: enough for what a run keeps from step to step to go wrong.

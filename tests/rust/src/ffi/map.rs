@@ -12,7 +12,7 @@ use crate::model::{CLASSES, PLACES};
 pub struct Map {
     k: u8,
     classes: u8,
-    lot: u32,
+    lot: u64,
     counts: [[u32; CLASSES]; PLACES],
     neighbours: [u64; PLACES],
 }

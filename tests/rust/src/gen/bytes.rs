@@ -74,13 +74,13 @@ fn any_row_length(rng: &mut Rng) -> u16 {
     }
 }
 
-/// Changes one or more of k, row length and distance, with a check word that fits: the rules before the check word must
-/// see it.
+/// Changes one or more of k, row length, distance and the part of the lot beside it, with a check word that fits: the rules
+/// before the check word must see it.
 fn change_trailer(rng: &mut Rng, map: &Map, bytes: &mut [u8]) {
     let start = bytes.len() - TRAILER;
     let (mut k, mut row) = (u16::from(map.k), row_length(map.classes) as u16);
     for _ in 0..1 + rng.below(3) {
-        match rng.below(3) {
+        match rng.below(4) {
             0 => {
                 k = rng.pick(&[0, 1, 64, 65, 255, 256, 257, u16::MAX, u16::from(map.k) - 1, u16::from(map.k) + 1]);
                 put(bytes, start, &k.to_le_bytes());
@@ -89,17 +89,19 @@ fn change_trailer(rng: &mut Rng, map: &Map, bytes: &mut [u8]) {
                 row = any_row_length(rng);
                 put(bytes, start + 2, &row.to_le_bytes());
             }
+            2 => put(bytes, start + 6, &rng.pick(&[0, 1, 1 << 8, 1 << 15, u16::MAX]).to_le_bytes()),
             _ => put(bytes, start + 4, &any_distance(rng, k, row).to_le_bytes()),
         }
     }
     seal(bytes, k, row);
 }
 
-/// Mostly what k and the row length come to, else a little off, or by another row length.
-fn any_distance(rng: &mut Rng, k: u16, row: u16) -> u32 {
+/// Often what k and the row length come to, else a little off, or by another row length.
+fn any_distance(rng: &mut Rng, k: u16, row: u16) -> u16 {
     let (k, row) = (u32::from(k), u32::from(row));
     let (rows, by_another) = (row * k, u32::from(any_row_length(rng)).wrapping_mul(k));
-    rng.pick(&[rows, rows, rows, rows, rows + 1, rows + row, rows.wrapping_sub(1), 12 * k, by_another, 0, u32::MAX])
+    let off = [rows + 1, rows + row, rows.wrapping_sub(1), 12 * k, by_another, 0, u32::MAX];
+    (if rng.chance(40) { rows } else { rng.pick(&off) }) as u16
 }
 
 fn put(bytes: &mut [u8], at: usize, field: &[u8]) {

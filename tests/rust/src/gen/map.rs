@@ -2,7 +2,7 @@
 
 use super::aggregate::{class_count, NO_CLASS_COUNTS};
 use crate::model::aggregate::{in_use, NO_READING};
-use crate::model::map::Map;
+use crate::model::map::{Map, LOT_LIMIT};
 use crate::model::{set, MOST_STATIONS, PLACES};
 use crate::rng::Rng;
 
@@ -11,6 +11,12 @@ pub const LARGEST_COUNT: u32 = NO_READING - 1;
 
 /// Numbers that are no k.
 pub const NO_STATION_COUNTS: [u8; 5] = [0, 65, 66, 128, 255];
+
+/// Lots that a stored map may have: the least and the greatest, and those where the part beside the distance begins.
+pub const STORED_LOTS: [u64; 4] = [0, (1 << 32) - 1, 1 << 32, LOT_LIMIT - 1];
+
+/// Lots that no stored map has.
+pub const LONG_LOTS: [u64; 4] = [LOT_LIMIT, LOT_LIMIT + 42, 1 << 63, u64::MAX];
 
 /// Links between the places of a shape, before the stations are dealt out.
 type Links = Vec<(u8, u8)>;
@@ -28,7 +34,7 @@ pub fn accepted(rng: &mut Rng) -> Map {
 }
 
 pub fn accepted_of(rng: &mut Rng, k: u8, classes: u8) -> Map {
-    let mut map = Map::empty(k, classes, rng.bits() as u32);
+    let mut map = Map::empty(k, classes, stored_lot(rng));
     let links = shape(rng, k);
     let station_at = permutation(rng, k);
     for (a, b) in links {
@@ -38,9 +44,17 @@ pub fn accepted_of(rng: &mut Rng, k: u8, classes: u8) -> Map {
     map
 }
 
+fn stored_lot(rng: &mut Rng) -> u64 {
+    if rng.chance(50) {
+        rng.pick(&STORED_LOTS)
+    } else {
+        rng.bits() % LOT_LIMIT
+    }
+}
+
 /// All 64 stations linked to each other, with the same counts for all.
 pub fn all_linked(counts: &[u32]) -> Map {
-    let mut map = Map::empty(MOST_STATIONS, counts.len() as u8, 1);
+    let mut map = Map::empty(MOST_STATIONS, counts.len() as u8, LOT_LIMIT - 1);
     for (a, b) in clique(MOST_STATIONS) {
         link(&mut map, a, b);
     }
@@ -133,7 +147,8 @@ fn litter(rng: &mut Rng, map: &mut Map) {
     }
 }
 
-/// A map to hand over: accepted, or with rules broken one at a time or together; past k and past c zero or anything.
+/// A map to hand over: accepted, or with rules broken one at a time or together; past k and past c zero or anything; with
+/// any lot.
 pub fn handed_over(rng: &mut Rng) -> Map {
     let mut map = accepted(rng);
     if rng.chance(60) {
@@ -141,6 +156,9 @@ pub fn handed_over(rng: &mut Rng) -> Map {
     }
     if rng.chance(40) {
         litter(rng, &mut map);
+    }
+    if rng.chance(25) {
+        map.lot = rng.pick(&LONG_LOTS);
     }
     // of bad counts, often both
     let bad = rng.below(100);

@@ -1,4 +1,4 @@
-//! The line map (document 01, and document 02, request 2): its stored form, reading, acceptance and writing.
+//! The line map (document 01, and document 02, requests 2 and 4): its stored form, reading, acceptance and writing.
 
 use super::aggregate::{in_use, is_class_count, Aggregate, Cell, NO_READING};
 use super::refusal::{Cause, Refusal};
@@ -6,19 +6,22 @@ use super::{set, CLASSES, MOST_CLASSES, MOST_STATIONS, PLACES, ROOT};
 
 pub const TRAILER: usize = 16;
 
+/// "A lot of 2^48 or more" is not written.
+pub const LOT_LIMIT: u64 = 1 << 48;
+
 #[derive(Clone, Copy, PartialEq, Eq, Debug)]
 pub struct Map {
     pub k: u8,
     /// c: how many counts a station has.
     pub classes: u8,
-    pub lot: u32,
+    pub lot: u64,
     /// By station, then by class.
     pub counts: [[u32; CLASSES]; PLACES],
     pub neighbours: [u64; PLACES],
 }
 
 impl Map {
-    pub fn empty(k: u8, classes: u8, lot: u32) -> Map {
+    pub fn empty(k: u8, classes: u8, lot: u64) -> Map {
         Map { k, classes, lot, counts: [[0; CLASSES]; PLACES], neighbours: [0; PLACES] }
     }
 
@@ -79,7 +82,8 @@ fn stored_length(k: u8, classes: u8) -> usize {
     distance(k, classes) + TRAILER
 }
 
-/// The stored form: rows of counts and set, then the trailer, whose last word makes all words add to zero.
+/// The stored form: rows of counts and set, then the trailer, whose last word makes all words add to zero. The distance
+/// back "keeps the lower 2 bytes of its field. The upper 2 bytes become bits 32 to 47 of the lot."
 pub fn stored(map: &Map) -> Vec<u8> {
     let mut bytes = Vec::with_capacity(map.stored_length());
     for i in 0..usize::from(map.k) {
@@ -88,8 +92,10 @@ pub fn stored(map: &Map) -> Vec<u8> {
     }
     bytes.extend(u16::from(map.k).to_le_bytes());
     bytes.extend((row_length(map.classes) as u16).to_le_bytes());
-    bytes.extend((distance(map.k, map.classes) as u32).to_le_bytes());
-    bytes.extend(map.lot.to_le_bytes());
+    bytes.extend((distance(map.k, map.classes) as u16).to_le_bytes());
+    let lot = map.lot.to_le_bytes();
+    bytes.extend(&lot[4..6]);
+    bytes.extend(&lot[..4]);
     let check = word_sum(&bytes).wrapping_neg();
     bytes.extend(check.to_le_bytes());
     bytes
@@ -120,7 +126,7 @@ fn trailer_numbers(bytes: &[u8]) -> Result<(u8, u8), Refusal> {
     let trailer = &bytes[start..];
     let classes = classes_of_row(le16(trailer, 2)).ok_or(Cause::Classes.alone())?;
     let k = u8::try_from(le16(trailer, 0)).ok().filter(|&k| is_station_count(k)).ok_or(Cause::StationCount.alone())?;
-    if le32(trailer, 4) as usize != distance(k, classes) {
+    if usize::from(le16(trailer, 4)) != distance(k, classes) {
         return Err(Cause::Distance.alone());
     }
     if distance(k, classes) > start {
@@ -137,7 +143,8 @@ fn classes_of_row(length: u16) -> Option<u8> {
 /// The map in its own bytes, zero past k and past c.
 fn unpack(k: u8, classes: u8, own: &[u8]) -> Map {
     let (rows, trailer) = own.split_at(own.len() - TRAILER);
-    let mut map = Map::empty(k, classes, le32(trailer, 8));
+    let lot = u64::from(le32(trailer, 8)) | u64::from(le16(trailer, 6)) << 32;
+    let mut map = Map::empty(k, classes, lot);
     for (i, row) in rows.chunks_exact(row_length(classes)).enumerate() {
         let (counts, set) = row.split_at(row.len() - 8);
         for (class, count) in counts.chunks_exact(4).enumerate() {
@@ -197,9 +204,12 @@ fn joined_to_root(sets: &[u64]) -> u64 {
 }
 
 /// Writes an accepted map at the first lent byte; the bytes past it stay. Gives the number of bytes filled. Refusals 2, 3,
-/// 7 to 10, 15.
+/// 7 to 10, 18, 15.
 pub fn write(map: &Map, buffer: &mut [u8]) -> Result<u32, Refusal> {
     accept(map)?;
+    if map.lot >= LOT_LIMIT {
+        return Err(Cause::LotTooLong.alone());
+    }
     let length = map.stored_length();
     match buffer.get_mut(..length) {
         Some(filled) => {

@@ -1,4 +1,4 @@
-//! Causes and numbers (document 01): why a call is refused, and what it returns then.
+//! Causes and numbers (document 01, and document 02, request 4): why a call is refused, and what it returns then.
 
 #[derive(Clone, Copy, PartialEq, Eq, Debug)]
 #[repr(u8)]
@@ -20,6 +20,7 @@ pub enum Cause {
     BufferTooSmall = 15,
     OddDraws = 16,
     InputTooLong = 17,
+    LotTooLong = 18,
 }
 
 impl Cause {

@@ -1,5 +1,5 @@
-//! The tests' own tests: document 01's hollow programs and wrong turns, those of missing readings, of classes and of words,
-//! must not pass. Each is the model of a station, of maps or of a kind of net with one fault.
+//! The tests' own tests: document 01's hollow programs and wrong turns, those of missing readings, of classes, of lots and
+//! of words, must not pass. Each is the model of a station, of maps or of a kind of net with one fault.
 
 mod classes;
 mod faulty;

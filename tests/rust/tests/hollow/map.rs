@@ -1,9 +1,9 @@
-//! Maps: what may go wrong with rows of several counts, stored and handed over.
+//! Maps: what may go wrong with rows of several counts and with long lots, stored and handed over.
 
 use super::is_caught;
 use conformance::calls::{MapCalls, Model};
 use conformance::compare::map::{handing_over, reading};
-use conformance::model::map::{Map, TRAILER};
+use conformance::model::map::{Map, LOT_LIMIT, TRAILER};
 use conformance::model::refusal::{Cause, Refusal};
 use conformance::model::{CLASSES, MOST_CLASSES, MOST_STATIONS, PLACES};
 
@@ -24,23 +24,37 @@ enum Fault {
     PastCWritten,
     LastCountNotWritten,
     LengthByTwelve,
+    UpperHalfNotRead,
+    DistanceOfFourBytes,
+    UpperHalfNotWritten,
+    LotUntested,
+    LotTestedFirst,
+    LotTestedLast,
+    LotTestedByAccept,
 }
 
 /// Of reading, and of a map handed over.
-const READ_FAULTS: [Fault; 5] = [
+const READ_FAULTS: [Fault; 7] = [
     Fault::RowsOfTwelveOnly,
     Fault::NineClassesRead,
     Fault::DistanceUntested,
     Fault::SetReadEarly,
     Fault::PastCLeftByReading,
+    Fault::UpperHalfNotRead,
+    Fault::DistanceOfFourBytes,
 ];
-const HANDED_OVER_FAULTS: [Fault; 6] = [
+const HANDED_OVER_FAULTS: [Fault; 11] = [
     Fault::StationsTestedFirst,
     Fault::ClassesUntested,
     Fault::NineAccepted,
     Fault::PastCWritten,
     Fault::LastCountNotWritten,
     Fault::LengthByTwelve,
+    Fault::UpperHalfNotWritten,
+    Fault::LotUntested,
+    Fault::LotTestedFirst,
+    Fault::LotTestedLast,
+    Fault::LotTestedByAccept,
 ];
 
 impl Fault {
@@ -51,9 +65,19 @@ impl Fault {
             Fault::StationsTestedFirst if !(1..=MOST_STATIONS).contains(&map.k) => seen.classes = 1,
             Fault::ClassesUntested => seen.classes = map.classes.clamp(1, MOST_CLASSES),
             Fault::NineAccepted if map.classes == MOST_CLASSES + 1 => seen.classes = MOST_CLASSES,
+            Fault::UpperHalfNotWritten if map.lot < LOT_LIMIT => seen.lot = map.lot % (1 << 32),
+            Fault::LotUntested => seen.lot = map.lot % LOT_LIMIT,
             _ => {}
         }
         seen
+    }
+
+    /// A rule on lots where there is none.
+    fn lot(self, tested_by: Fault, map: &Map) -> Result<(), Refusal> {
+        if self == tested_by && map.lot >= LOT_LIMIT {
+            return Err(Cause::LotTooLong.alone());
+        }
+        Ok(())
     }
 }
 
@@ -76,14 +100,21 @@ fn with_word(bytes: &[u8], at: usize, word: u32) -> Vec<u8> {
 
 impl MapCalls for Fault {
     fn read(&self, bytes: &[u8], map: &mut Map) -> Result<(), Refusal> {
-        let (before, k, row) = (*map, field(bytes, 0).map_or(0, u32::from), field(bytes, 2).map_or(0, u32::from));
+        let before = *map;
+        let [k, row, upper] = [0, 2, 6].map(|at| field(bytes, at).map_or(0, u32::from));
         match self {
             Fault::RowsOfTwelveOnly if row > 12 => return Err(Cause::Classes.alone()),
             Fault::NineClassesRead if row == 44 => return Model.read(&with_word(bytes, 0, k | 40 << 16), map),
-            Fault::DistanceUntested if row > 0 => return Model.read(&with_word(bytes, 4, k * row), map),
+            Fault::DistanceUntested if row > 0 => {
+                return Model.read(&with_word(bytes, 4, k * row % (1 << 16) | upper << 16), map)
+            }
+            Fault::DistanceOfFourBytes if upper > 0 => return Model.read(&with_word(bytes, 4, u32::MAX), map),
             _ => {}
         }
         Model.read(bytes, map)?;
+        if *self == Fault::UpperHalfNotRead {
+            map.lot %= 1 << 32;
+        }
         let classes = usize::from(map.classes);
         for i in 0..usize::from(map.k) {
             match self {
@@ -98,16 +129,19 @@ impl MapCalls for Fault {
     }
 
     fn accept(&self, map: &Map) -> Result<(), Refusal> {
-        Model.accept(&self.seen(map))
+        Model.accept(&self.seen(map))?;
+        self.lot(Fault::LotTestedByAccept, map)
     }
 
     fn write(&self, map: &Map, buffer: &mut [u8]) -> Result<u32, Refusal> {
+        self.lot(Fault::LotTestedFirst, map)?;
         let mut seen = self.seen(map);
         let last = usize::from(seen.classes.clamp(1, MOST_CLASSES)) - 1;
         match self {
             Fault::PastCWritten if last + 1 < CLASSES => {
                 (0..PLACES).for_each(|i| seen.counts[i][last] ^= seen.counts[i][last + 1])
             }
+            Fault::LotTestedLast if buffer.len() < seen.stored_length() => seen.lot %= LOT_LIMIT,
             Fault::LastCountNotWritten => seen.counts.iter_mut().for_each(|counts| counts[last] = 0),
             _ => {}
         }
@@ -120,6 +154,7 @@ impl MapCalls for Fault {
     }
 
     fn links(&self, map: &Map) -> Result<u32, Refusal> {
+        self.lot(Fault::LotTestedByAccept, map)?;
         Model.links(&self.seen(map))
     }
 }

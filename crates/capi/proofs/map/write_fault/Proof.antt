@@ -10,6 +10,9 @@ enum-known-why c = search needs
 fault-requires : tie.Need-fault-requires
 fault-requires c κs = search needs
 
+enum-told : tie.Need-enum-told
+enum-told c = search needs
+
 enum-known-why-2 : tie.Need-enum-known-why-2
 enum-known-why-2 c = search needs
 
@@ -23,7 +26,10 @@ returns : tie.Need-returns
 returns c = search needs
 
 returns-2 : tie.Need-returns-2
-returns-2 c = rw (c .before .before .why2 .given .1) (c .with-value .ensures)
+returns-2 c = search needs
+
+returns-3 : tie.Need-returns-3
+returns-3 c = rw (c .before .before .why2 .given .1) (c .with-value .ensures)
 
 pub write-fault-spec : {M : Type 1} → statement M
 write-fault-spec =
@@ -31,8 +37,10 @@ write-fault-spec =
     (tie.spec
     enum-known-why
     fault-requires
+    enum-told
     enum-known-why-2
     cast-with-value
     with-value-requires
     returns
-    returns-2)
+    returns-2
+    returns-3)

@@ -33,13 +33,22 @@ add-get-3 c = search needs
 get-requires-4 : tie.Need-get-requires-4
 get-requires-4 c κs = search needs
 
-cast-t12 : tie.Need-cast-t12
-cast-t12 c = search needs
+add-get-4 : tie.Need-add-get-4
+add-get-4 c = search needs
+
+get-requires-5 : tie.Need-get-requires-5
+get-requires-5 c κs = search needs
+
+mul-t14 : tie.Need-mul-t14
+mul-t14 c = search needs
+
+add-t15 : tie.Need-add-t15
+add-t15 c = search needs
 
 returns-2 : tie.Need-returns-2
 unfolding trailerOf
 returns-2 c =
-    rw (le-leb trailerLength (length (c .before .before .before .before .before .before .args .s .now)) (omega arith)) (cc)
+    rw (le-leb trailerLength (length (c .before .before .before .before .before .before .before .args .s .now)) (omega arith)) (cc)
 
 pub read-trailer-spec : {M : Type 1} → statement M
 read-trailer-spec =
@@ -53,5 +62,8 @@ read-trailer-spec =
     get-requires-3
     add-get-3
     get-requires-4
-    cast-t12
+    add-get-4
+    get-requires-5
+    mul-t14
+    add-t15
     returns-2)

@@ -1,4 +1,4 @@
--- `linemap::writing::put_trailer` meets its contract: four numbers, one right after the other. Assumes nothing.
+-- `linemap::writing::put_trailer` meets its contract: five numbers, one right after the other. Assumes nothing.
 use borrow.Author.Needs.{needs}
 use Rattle.linemap.proofs.StoredForm.{trailer-laid}
 use Rattle.linemap.proofs.writing.put_trailer.Statement.{statement}
@@ -28,17 +28,28 @@ add-put-3 c = search needs
 put-requires-4 : tie.Need-put-requires-4
 put-requires-4 c κs = search needs
 
+add-put-4 : tie.Need-add-put-4
+add-put-4 c = search needs
+
+put-requires-5 : tie.Need-put-requires-5
+put-requires-5 c κs = search needs
+
 same-length : tie.Need-same-length
 same-length c = search needs
 
 returns : tie.Need-returns
 returns c =
-    let a = c .before .before .before .before .before .before .before .before .before .before .before .before .before .before .before .before .before .args in
+    let fourth = c .before .before .before .before in
+    let third = fourth .before .before .before .before in
+    let second = third .before .before .before .before in
+    let first = second .before .before .before .before in
+    let a = first .before .before .before .before .before .args in
     trailer-laid (a .buf .now) (a .width) (a .k) (a .lot)
-    (c .before .before .before .before .before .before .before .before .before .before .before .before .before .before .put .ensures)
-    (c .before .before .before .before .before .before .before .before .before .before .put2 .ensures)
-    (c .before .before .before .before .before .before .put3 .ensures)
-    (c .before .before .put4 .ensures)
+    (first .before .before .put .ensures)
+    (second .before .before .put2 .ensures)
+    (third .before .before .put3 .ensures)
+    (fourth .before .before .put4 .ensures)
+    (c .before .before .put5 .ensures)
 
 pub put-trailer-spec : {M : Type 1} → statement M
 put-trailer-spec =
@@ -52,5 +63,7 @@ put-trailer-spec =
     put-requires-3
     add-put-3
     put-requires-4
+    add-put-4
+    put-requires-5
     same-length
     returns)
