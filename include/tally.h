@@ -57,10 +57,11 @@ struct tally_station {
     uint8_t state;
 };
 
-/* A station with its own number and its class count, as a controller keeps it. */
+/* A station with its own number, its class count and the number of the desk, as a controller keeps it. */
 struct tally_process {
     uint8_t own;
     uint8_t classes;
+    uint8_t desk;
     struct tally_station station;
 };
 
@@ -73,10 +74,12 @@ TALLY_ASSERT(offsetof(struct tally_station, waits) == 81);
 TALLY_ASSERT(offsetof(struct tally_station, state) == 82);
 TALLY_ASSERT(sizeof(struct tally_process) == 96);
 TALLY_ASSERT(offsetof(struct tally_process, classes) == 1);
+TALLY_ASSERT(offsetof(struct tally_process, desk) == 2);
 TALLY_ASSERT(offsetof(struct tally_process, station) == 8);
 
-/* The events: 0, or 11 (station out of form, or classes not 1 to TALLY_CLASSES), 12 (station number, or a sum or missing number of a class
-   in use, out of range), 13 (not allowed), which leave the record. An accepted event leaves the station after it. */
+/* The events: 0, or 11 (station out of form, classes not 1 to TALLY_CLASSES, or desk not below TALLY_STATIONS), 12 (station number, or a sum
+   or missing number of a class in use, out of range), 13 (not allowed), which leave the record. An accepted event leaves the station
+   after it. */
 uint64_t tally_process_take_start(struct tally_process *p, uint8_t from);
 uint64_t tally_process_send_start(struct tally_process *p, uint8_t to);
 uint64_t tally_process_take_answer(struct tally_process *p, struct tally_aggregate v);
@@ -91,18 +94,20 @@ struct tally_given {
 TALLY_ASSERT(sizeof(struct tally_given) == 80);
 TALLY_ASSERT(offsetof(struct tally_given, held) == 8);
 
-/* 0 comes with the parent, as the value. Station 0 reports; the others answer. */
+/* 0 comes with the parent, as the value. The desk reports; the others answer. */
 struct tally_given tally_process_send_answer(struct tally_process *p);
 struct tally_given tally_process_report(struct tally_process *p);
 
 /* ---- line maps ----------------------------------------------------------------------------------------------------------------------
 
-   k stations, 1 to 64, numbered from 0; how many classes, 1 to TALLY_CLASSES; the lot, of which only writing asks that it is below
-   TALLY_LOT_LIMIT, as every lot that was read is; and of each station the counts, one a class (TALLY_NO_READING among them), and the
-   neighbours (bit j is station j). Places k and above, and counts past the classes, are zero after reading, and otherwise ignored. */
+   k stations, 1 to 64, numbered from 0; how many classes, 1 to TALLY_CLASSES; the desk, one of the stations; the lot, of which only writing
+   asks that it is below TALLY_LOT_LIMIT, as every lot that was read is; and of each station the counts, one a class (TALLY_NO_READING among
+   them), and the neighbours (bit j is station j). Places k and above, and counts past the classes, are zero after reading, and otherwise
+   ignored. */
 struct tally_map {
     uint8_t k;
     uint8_t classes;
+    uint8_t desk;
     uint64_t lot;
     uint32_t counts[TALLY_STATIONS][TALLY_CLASSES];
     uint64_t neighbours[TALLY_STATIONS];
@@ -112,31 +117,33 @@ struct tally_map {
 
 TALLY_ASSERT(sizeof(struct tally_map) == 2576);
 TALLY_ASSERT(offsetof(struct tally_map, classes) == 1);
+TALLY_ASSERT(offsetof(struct tally_map, desk) == 2);
 TALLY_ASSERT(offsetof(struct tally_map, lot) == 8);
 TALLY_ASSERT(offsetof(struct tally_map, counts) == 16);
 TALLY_ASSERT(offsetof(struct tally_map, neighbours) == 2064);
 
-/* Reads the last map in the bytes: 0, or 1 to 10, which leave *map; 7 to 10 come with the station. The row length says how many classes
-   there are: 2 where it is not one of 12, 16, .. 40. */
+/* Reads the last map in the bytes: 0, or 1 to 10, or 19 (desk not below k; after 3), which leave *map; 7 to 10 come with the station. The
+   row length says how many classes there are: 2 where it is not one of 12, 16, .. 40. */
 uint64_t tally_map_read(struct tally_map *map, const uint8_t *bytes, size_t length);
 
-/* Writes the stored form from the first byte: 0 with the number of bytes filled, or 2 (classes not 1 to TALLY_CLASSES), 3, 7 to 10 with
-   the station, 18 (a lot of TALLY_LOT_LIMIT or more), 15 with the length needed, which leave the bytes. What stands past the bytes filled is
-   left. */
+/* Writes the stored form from the first byte: 0 with the number of bytes filled, or 2 (classes not 1 to TALLY_CLASSES), 3, 19 (desk not
+   below k), 7 to 10 with the station, 18 (a lot of TALLY_LOT_LIMIT or more), 15 with the length needed, which leave the bytes. What stands
+   past the bytes filled is left. */
 uint64_t tally_map_write(struct tally_map map, uint8_t *bytes, size_t length);
 
-/* Whether a map is accepted: 0, or 2, or 3, or 7 to 10 with the lowest offender. */
+/* Whether a map is accepted: 0, or 2, or 3, or 19, or 7 to 10 with the lowest offender. */
 uint64_t tally_map_accept(struct tally_map map);
 
-/* The number of links of an accepted map: 0 with it, or 2, or 3, or 7 to 10 with the station. */
+/* The number of links of an accepted map: 0 with it, or 2, or 3, or 19, or 7 to 10 with the station. */
 uint64_t tally_map_links(struct tally_map map);
 
 /* ---- stations that meet -------------------------------------------------------------------------------------------------------------
 
-   What a net is opened with: its numbers of stations and of classes. */
+   What a net is opened with: its numbers of stations and of classes, and its desk. */
 struct tally_config {
     uint8_t k;
     uint8_t classes;
+    uint8_t desk;
 };
 
 struct tally_rendezvous {
@@ -151,14 +158,15 @@ struct tally_run {
     uint64_t steps;
 };
 
-TALLY_ASSERT(sizeof(struct tally_config) == 2);
+TALLY_ASSERT(sizeof(struct tally_config) == 3);
 TALLY_ASSERT(offsetof(struct tally_config, classes) == 1);
+TALLY_ASSERT(offsetof(struct tally_config, desk) == 2);
 TALLY_ASSERT(sizeof(struct tally_rendezvous) == 5640);
 TALLY_ASSERT(offsetof(struct tally_rendezvous, stations) == 8);
 TALLY_ASSERT(sizeof(struct tally_run) == 16);
 TALLY_ASSERT(offsetof(struct tally_run, steps) == 8);
 
-/* The kinds of step. A report is from 0 to 0. */
+/* The kinds of step. A report is from the desk to the desk. */
 enum { TALLY_WAKE = 1, TALLY_PASS, TALLY_ANSWER, TALLY_REPORT };
 
 /* The step that an accepted step or draw made, in either kind of net. */
@@ -166,11 +174,12 @@ enum { TALLY_WAKE = 1, TALLY_PASS, TALLY_ANSWER, TALLY_REPORT };
 #define TALLY_SENDER(answer) ((uint8_t)((answer) >> 16))
 #define TALLY_RECEIVER(answer) ((uint8_t)((answer) >> 24))
 
-/* Opens the fresh net of a map: 0, or 2, or 3, or 7 to 10 with the station, which leave *net. Past k and past the classes it is zero. */
+/* Opens the fresh net of a map: 0, or 2, or 3, or 19, or 7 to 10 with the station, which leave *net. Past k and past the classes it is
+   zero. */
 uint64_t tally_rendezvous_fresh(struct tally_rendezvous *net, struct tally_map map);
 
-/* One step: 0 with the step made (kind, sender, receiver), or 11 (classes not 1 to TALLY_CLASSES among it), 12, 13, which leave
-   *net. */
+/* One step: 0 with the step made (kind, sender, receiver), or 11 (classes not 1 to TALLY_CLASSES, or a desk not below k, among
+   it), 12, 13, which leave *net. */
 uint64_t tally_rendezvous_step(struct tally_rendezvous *net, uint8_t kind, uint8_t sender, uint8_t receiver);
 
 /* The step that draw d picks: 0 with the step made, or 11, or 14 (nothing allowed), which leave *net. */
@@ -217,11 +226,11 @@ TALLY_ASSERT(offsetof(struct tally_mail, answers) == 512);
 TALLY_ASSERT(offsetof(struct tally_mail, missing) == 1024);
 TALLY_ASSERT(offsetof(struct tally_mail, sums) == 33792);
 
-/* The kinds of step with mail. A report is from 0 to 0. */
+/* The kinds of step with mail. A report is from the desk to the desk. */
 enum { TALLY_DELIVERY = 1, TALLY_MAIL_REPORT };
 
-/* Opens the fresh net of a map: 0, or 2, or 3, or 7 to 10 with the station, which leave *line and *mail. All words are zero then, but for
-   the starts of station 0, which wait for its neighbours. */
+/* Opens the fresh net of a map: 0, or 2, or 3, or 19, or 7 to 10 with the station, which leave *line and *mail. All words are zero then, but
+   for the starts of the desk, which wait for its neighbours. */
 uint64_t tally_mailbox_fresh(struct tally_line *line, struct tally_mail *mail, struct tally_map map);
 
 /* A step, a draw and a run answer, and leave what they are lent, as those of stations that meet. An answer that waits with a sum of 2^62 or

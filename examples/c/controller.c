@@ -1,9 +1,9 @@
 /* A controller's side of the tally. It keeps one station record and lends it to each event, which alters it there; there is nothing to
    open, to close or to allocate.
 
-   This one is station 1 of document 01's triangle, linked to 0 and 2, and counts three classes of bruises: 7 stem punctures, 1 finger
-   bruise, and no russet reading. Its links bring a start from station 0, two spoiled frames, and the answer of station 2; what it sends is
-   printed. */
+   This one is station 1 of document 01's triangle, linked to 0, the desk, and to 2, and counts three classes of bruises: 7 stem punctures,
+   1 finger bruise, and no russet reading. Its links bring a start from station 0, two spoiled frames, and the answer of station 2; what it
+   sends is printed. */
 #include "tally.h"
 #include <inttypes.h>
 #include <stdio.h>
@@ -78,6 +78,7 @@ int main(void)
     struct tally_process station = {
         .own = 1,
         .classes = CLASSES,
+        .desk = 0,
         .station = {.held = gather(own), .unstarted = 1u << 0 | 1u << 2, .parent = 0, .waits = 2, .state = TALLY_ASLEEP},
     };
     const struct frame inbox[] = {

@@ -3,7 +3,8 @@
 
    The map is document 01's triangle, lot 42, with one class of bruises. It is run twice: draw by draw, with a line for each step, and in
    another order in one call, which gives the same total. Then a lamp has failed: the total is that of the other heads, and one reading is
-   missing. Then the heads count a second class too, and none is missing there; each class has its own total. */
+   missing. Then the heads count a second class too, and none is missing there; each class has its own total. Last the desk is another: a
+   terminal that hangs on station 2, where no fruit passes, and which reports the same. */
 #include "tally.h"
 #include <inttypes.h>
 #include <stdio.h>
@@ -13,7 +14,7 @@ static const uint8_t stored[] = {
     5, 0, 0, 0, 1 << 1 | 1 << 2, 0, 0, 0, 0, 0, 0, 0,
     7, 0, 0, 0, 1 << 0 | 1 << 2, 0, 0, 0, 0, 0, 0, 0,
     11, 0, 0, 0, 1 << 0 | 1 << 1, 0, 0, 0, 0, 0, 0, 0,
-    /* stations, row length, distance back to the first row, lot, and the check word that makes all words add to zero */
+    /* stations and the desk, row length, distance back to the first row, lot, and the check word that makes all words add to zero */
     3, 0, 12, 0, 36, 0, 0, 0, 42, 0, 0, 0, 0x8a, 0xff, 0xf3, 0xff,
 };
 
@@ -55,14 +56,14 @@ static unsigned draw_by_draw(struct tally_rendezvous *net)
 /* All of it in one call. An accepted map opens a net. */
 static void run(struct tally_map map)
 {
-    static const uint16_t draws[] = {0, 1, 0, 0, 0, 0, 0, 0};
+    static const uint16_t draws[] = {0, 1, 0, 0, 0, 0, 0, 0, 0};
     struct tally_rendezvous net;
 
     tally_rendezvous_fresh(&net, map);
     struct tally_run run = tally_rendezvous_run(&net, draws, sizeof draws / sizeof draws[0]);
     printf("run: steps %" PRIu64 ", at rest %" PRIu64 ", station 2 hung on %u, reported", run.steps, TALLY_VALUE(run.answer),
            net.stations[2].parent);
-    print_held(&net, 0);
+    print_held(&net, net.config.desk);
     printf("\n");
 }
 
@@ -89,6 +90,11 @@ int main(void)
     map.classes = 2;
     for (uint8_t i = 0; i < map.k; i++)
         map.counts[i][1] = 100 + i;
+    run(map);
+
+    map.desk = map.k++;
+    map.neighbours[map.desk] = 1 << 2;
+    map.neighbours[2] |= 1 << map.desk;
     run(map);
     return 0;
 }

@@ -1,6 +1,6 @@
 /* A net of stations with mail: steps, draws and runs on document 01's triangle, their values, what refusals leave, and how mailboxes are
-   read from words and written to words; missing readings and classes. The order: deliveries 0 1, 1 2, 0 2, 2 0, 2 1 with 11, 1 0 with 18;
-   report 23. */
+   read from words and written to words; missing readings, classes, and a desk elsewhere. The order: deliveries 0 1, 1 2, 0 2, 2 0, 2 1 with
+   11, 1 0 with 18; report 23. */
 #include "check.h"
 #include "triangle.h"
 
@@ -184,6 +184,19 @@ static void classes(struct net net)
     CHECK(deliver(&net, 0, 2) == 11 && draw(&net, 0) == 11 && run(&net, 1).answer == 11);
 }
 
+/* The desk at station 2 has the first starts, and reports. */
+static void desks(struct net net)
+{
+    CHECK(tally_mailbox_fresh(&net.line, &net.mail, desk_at_2) == 0);
+    CHECK(starts_wait(&net.mail, 0, 0, 3) && is(&net.line.stations[0], held(5, 0), 6, 2, 2, TALLY_ASLEEP));
+    CHECK(tally_mailbox_step(&net.line, &net.mail, TALLY_MAIL_REPORT, 0, 0) == 12);
+    CHECK(run(&net, 6).answer == 0);
+    CHECK(made(draw(&net, 0), TALLY_MAIL_REPORT, 2, 2));
+    CHECK(is(&net.line.stations[2], held(23, 0), 3, 2, 0, TALLY_FINISHED));
+    net.line.config.desk = 64;
+    CHECK(deliver(&net, 0, 1) == 11 && draw(&net, 0) == 11 && run(&net, 1).answer == 11);
+}
+
 /* Past k, from a station to itself, and beside no answer, any words may stand: no call but an opening looks at them or touches them. */
 static void strays(struct net net)
 {
@@ -248,6 +261,7 @@ int main(void)
     posts(net);
     missing(net);
     classes(net);
+    desks(net);
     strays(net);
     wave(&net);
     return 0;

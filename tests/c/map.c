@@ -1,5 +1,5 @@
-/* Maps of one class and of several, and with long lots, written, read back, counted and refused: the values that come with the numbers, and
-   what is left. */
+/* Maps of one class and of several, with long lots and with any desk, written, read back, counted and refused: the values that come with
+   the numbers, and what is left. */
 #include "check.h"
 #include "triangle.h"
 #include <string.h>
@@ -9,8 +9,8 @@ static const uint8_t check_word[4] = {4294180746u & 255, 4294180746u >> 8 & 255,
 
 static int same(const struct tally_map *a, const struct tally_map *b)
 {
-    return a->k == b->k && a->classes == b->classes && a->lot == b->lot && memcmp(a->counts, b->counts, sizeof a->counts) == 0
-        && memcmp(a->neighbours, b->neighbours, sizeof a->neighbours) == 0;
+    return a->k == b->k && a->classes == b->classes && a->desk == b->desk && a->lot == b->lot
+        && memcmp(a->counts, b->counts, sizeof a->counts) == 0 && memcmp(a->neighbours, b->neighbours, sizeof a->neighbours) == 0;
 }
 
 static void store(void)
@@ -25,12 +25,12 @@ static void store(void)
     CHECK(memcmp(bytes + 48, check_word, 4) == 0);
     CHECK(bytes[52] == 0xa5);
 
-    struct tally_map map = {1, 2, 3, {{4}}, {5}};
+    struct tally_map map = {1, 2, 6, 3, {{4}}, {5}};
     CHECK(tally_map_read(&map, bytes, 15) == 1);
     CHECK(tally_map_read(&map, bytes + 1, 51) == 5);
     bytes[0]++;
     CHECK(tally_map_read(&map, bytes, 52) == 6);
-    CHECK(map.k == 1 && map.classes == 2 && map.lot == 3 && map.counts[0][0] == 4 && map.neighbours[0] == 5);
+    CHECK(map.k == 1 && map.classes == 2 && map.desk == 6 && map.lot == 3 && map.counts[0][0] == 4 && map.neighbours[0] == 5);
     bytes[0]--;
     CHECK(tally_map_read(&map, bytes, 52) == 0);
     CHECK(same(&map, &triangle));
@@ -76,6 +76,21 @@ static void lots(void)
     CHECK(bytes[0] == 0xa5);
 }
 
+/* The desk stands above k in the trailer; one that is no station is neither written nor read. */
+static void desks(void)
+{
+    uint8_t bytes[52];
+    struct tally_map back;
+    CHECK(tally_map_write(desk_at_2, bytes, sizeof bytes) == 256 * 52);
+    const uint8_t numbers[4] = {3, 2, 12, 0};
+    CHECK(memcmp(bytes + 36, numbers, sizeof numbers) == 0);
+    CHECK(tally_map_read(&back, bytes, sizeof bytes) == 0 && same(&back, &desk_at_2));
+    bytes[37] = 3;
+    CHECK(tally_map_read(&back, bytes, sizeof bytes) == 19 && same(&back, &desk_at_2));
+    bytes[36] = 0;
+    CHECK(tally_map_read(&back, bytes, sizeof bytes) == 3);
+}
+
 /* Every call on a map handed over refuses it alike. */
 static void refused(struct tally_map map, uint64_t number, uint64_t station)
 {
@@ -91,16 +106,21 @@ int main(void)
     store();
     classes();
     lots();
+    desks();
     CHECK(tally_map_accept(triangle) == 0);
     CHECK(tally_map_links(triangle) == 256 * 3);
-    refused((struct tally_map){3, 0, 0, {{0}}, {6, 5, 3}}, 2, 0);
-    refused((struct tally_map){0, TALLY_CLASSES + 1, 0, {{0}}, {0}}, 2, 0);
-    refused((struct tally_map){65, 255, 0, {{0}}, {0}}, 2, 0);
-    refused((struct tally_map){0, 1, 0, {{0}}, {0}}, 3, 0);
-    refused((struct tally_map){65, TALLY_CLASSES, 0, {{0}}, {0}}, 3, 0);
-    refused((struct tally_map){2, 1, 0, {{0}}, {2, 4 | 1}}, 7, 1);
-    refused((struct tally_map){1, 1, 0, {{0}}, {1}}, 8, 0);
-    refused((struct tally_map){3, 1, 0, {{0}}, {2, 1, 2}}, 9, 2);
-    refused((struct tally_map){2, 1, UINT64_MAX, {{0}}, {0, 0}}, 10, 1);
+    refused((struct tally_map){3, 0, 0, 0, {{0}}, {6, 5, 3}}, 2, 0);
+    refused((struct tally_map){0, TALLY_CLASSES + 1, 0, 0, {{0}}, {0}}, 2, 0);
+    refused((struct tally_map){65, 255, 0, 0, {{0}}, {0}}, 2, 0);
+    refused((struct tally_map){0, 1, 0, 0, {{0}}, {0}}, 3, 0);
+    refused((struct tally_map){65, TALLY_CLASSES, 0, 0, {{0}}, {0}}, 3, 0);
+    refused((struct tally_map){65, TALLY_CLASSES, 65, 0, {{0}}, {0}}, 3, 0);
+    refused((struct tally_map){3, 1, 3, 0, {{0}}, {6, 5, 3}}, 19, 0);
+    refused((struct tally_map){2, 1, 255, 0, {{0}}, {2, 4 | 1}}, 19, 0);
+    refused((struct tally_map){2, 1, 0, 0, {{0}}, {2, 4 | 1}}, 7, 1);
+    refused((struct tally_map){1, 1, 0, 0, {{0}}, {1}}, 8, 0);
+    refused((struct tally_map){3, 1, 0, 0, {{0}}, {2, 1, 2}}, 9, 2);
+    refused((struct tally_map){2, 1, 0, UINT64_MAX, {{0}}, {0, 0}}, 10, 1);
+    refused((struct tally_map){2, 1, 1, 0, {{0}}, {0, 0}}, 10, 0);
     return 0;
 }

@@ -1,5 +1,5 @@
-/* A net of stations that meet: steps, draws and runs on document 01's triangle, their values, what refusals leave, missing readings
-   and classes. */
+/* A net of stations that meet: steps, draws and runs on document 01's triangle, their values, what refusals leave, missing readings,
+   classes, and a desk elsewhere. */
 #include "check.h"
 #include "triangle.h"
 
@@ -66,6 +66,28 @@ static void classes(void)
     CHECK(is(&net.stations[0], reported, 0, 0, 0, TALLY_FINISHED));
 }
 
+/* The desk at station 2 starts, all hang on it at first, and it alone reports, the same total. A desk that is no station opens nothing, and
+   is out of form. */
+static void desks(void)
+{
+    static const uint16_t draws[7] = {0};
+    struct tally_rendezvous net;
+    CHECK(tally_rendezvous_fresh(&net, desk_at_2) == 0 && net.config.desk == 2);
+    CHECK(is(&net.stations[0], held(5, 0), 6, 2, 2, TALLY_ASLEEP) && is(&net.stations[2], held(11, 0), 3, 2, 2, TALLY_ACTIVE));
+    CHECK(tally_rendezvous_step(&net, TALLY_REPORT, 0, 0) == 12 && tally_rendezvous_step(&net, TALLY_REPORT, 2, 2) == 13);
+    CHECK(made(tally_rendezvous_draw(&net, 0), TALLY_WAKE, 2, 0));
+    CHECK(tally_rendezvous_run(&net, draws, 5).answer == 0);
+    CHECK(made(tally_rendezvous_draw(&net, 0), TALLY_REPORT, 2, 2));
+    CHECK(is(&net.stations[2], held(23, 0), 0, 2, 0, TALLY_FINISHED));
+
+    struct tally_map none = desk_at_2;
+    none.desk = 3;
+    CHECK(tally_rendezvous_fresh(&net, none) == 19 && net.config.desk == 2);
+    net.config.desk = 3;
+    CHECK(tally_rendezvous_step(&net, TALLY_REPORT, 3, 3) == 11 && tally_rendezvous_draw(&net, 0) == 11);
+    CHECK(tally_rendezvous_run(&net, draws, 1).answer == 11);
+}
+
 int main(void)
 {
     struct tally_rendezvous net;
@@ -84,5 +106,6 @@ int main(void)
     CHECK(tally_rendezvous_draw(&net, 0) == 14);
     missing();
     classes();
+    desks();
     return 0;
 }

@@ -96,8 +96,8 @@ static void spoil_line(void) { line.stations[TALLY_STATIONS - 1].waits = TALLY_S
 
 static void stations(void)
 {
-    const struct tally_process asleep = {5, TALLY_CLASSES, {{{1}, {0}}, 6, 0, 2, TALLY_ASLEEP}},
-                               ready = {5, TALLY_CLASSES, {{{1}, {0}}, 0, 1, 0, TALLY_ACTIVE}};
+    const struct tally_process asleep = {5, TALLY_CLASSES, 0, {{{1}, {0}}, 6, 0, 2, TALLY_ASLEEP}},
+                               ready = {5, TALLY_CLASSES, 0, {{{1}, {0}}, 0, 1, 0, TALLY_ACTIVE}};
     process = asleep;
     measure("tally_process_take_start", TALLY_PROCESS_STACK, take_start, spoil_process);
     process = asleep;

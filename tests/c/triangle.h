@@ -4,13 +4,16 @@
 #include "tally.h"
 #include <string.h>
 
-static const struct tally_map triangle = {3, 1, 42, {{5}, {7}, {11}}, {6, 5, 3}};
+static const struct tally_map triangle = {3, 1, 0, 42, {{5}, {7}, {11}}, {6, 5, 3}};
 
 /* The same where station 1 has no reading. */
-static const struct tally_map lamp_failed = {3, 1, 42, {{5}, {TALLY_NO_READING}, {11}}, {6, 5, 3}};
+static const struct tally_map lamp_failed = {3, 1, 0, 42, {{5}, {TALLY_NO_READING}, {11}}, {6, 5, 3}};
 
 /* The same with a second class, in which station 1 has no reading: its total is 7, with one missing. */
-static const struct tally_map two_classes = {3, 2, 42, {{5, 4}, {7, TALLY_NO_READING}, {11, 3}}, {6, 5, 3}};
+static const struct tally_map two_classes = {3, 2, 0, 42, {{5, 4}, {7, TALLY_NO_READING}, {11, 3}}, {6, 5, 3}};
+
+/* The same with the desk at station 2. */
+static const struct tally_map desk_at_2 = {3, 1, 2, 42, {{5}, {7}, {11}}, {6, 5, 3}};
 
 /* In one class. */
 static inline struct tally_aggregate held(uint64_t sum, uint8_t missing)
@@ -39,7 +42,7 @@ static inline int is(const struct tally_station *s, struct tally_aggregate due, 
 
 static inline int are_fresh(struct tally_config config, const struct tally_station s[TALLY_STATIONS])
 {
-    return config.k == 3 && config.classes == 1 && is(&s[0], held(5, 0), 6, 0, 2, TALLY_ACTIVE)
+    return config.k == 3 && config.classes == 1 && config.desk == 0 && is(&s[0], held(5, 0), 6, 0, 2, TALLY_ACTIVE)
         && is(&s[1], held(7, 0), 5, 0, 2, TALLY_ASLEEP) && is(&s[2], held(11, 0), 3, 0, 2, TALLY_ASLEEP)
         && is(&s[3], held(0, 0), 0, 0, 0, TALLY_ASLEEP) && is(&s[TALLY_STATIONS - 1], held(0, 0), 0, 0, 0, TALLY_ASLEEP);
 }

@@ -22,7 +22,7 @@ pub struct Mail {
 
 pub fn fresh(map: &Map) -> Mail {
     let mut starts = [0; 64];
-    starts[0] = map.neighbours[0];
+    starts[usize::from(map.desk)] = map.neighbours[usize::from(map.desk)];
     let (missing, sums) = ([[0; 64]; 64], [[[0; 64]; 64]; 8]);
     Mail { config: Config::of(map), stations: fresh_stations(map), starts, answers: [0; 64], missing, sums }
 }
@@ -31,7 +31,7 @@ pub fn step(net: &mut Mail, step: Step) -> Result<Step, Refusal> {
     if !net.is_in_form() {
         return Err((11, 0));
     }
-    if !is_in_range(net.config.k, REPORT, step) {
+    if !is_in_range(net.config, REPORT, step) {
         return Err((12, 0));
     }
     if !net.is_allowed(step) {
@@ -140,7 +140,7 @@ impl Mail {
         }
         self.starts[from] &= !bit;
         self.answers[from] &= !bit;
-        if receiver != 0 && self.stations[to].waits == 0 {
+        if receiver != self.config.desk && self.stations[to].waits == 0 {
             self.post_answer(to);
         }
         brings_answer
@@ -183,7 +183,8 @@ impl Open {
     fn pick(&self, net: &Mail, draw: u16) -> Option<Step> {
         let senders = 0..usize::from(net.config.k);
         let deliveries: u32 = senders.clone().map(|sender| self.deliveries(net, sender).count_ones()).sum();
-        let reports = self.to_answers as u32 & 1 & u32::from(net.stations[0].waits == 0);
+        let desk = net.config.desk;
+        let reports = (self.to_answers >> desk) as u32 & 1 & u32::from(net.stations[usize::from(desk)].waits == 0);
         if deliveries + reports == 0 {
             return None;
         }
@@ -195,7 +196,7 @@ impl Open {
             }
             entry -= to.count_ones();
         }
-        Some(Step { kind: REPORT, sender: 0, receiver: 0 })
+        Some(Step { kind: REPORT, sender: desk, receiver: desk })
     }
 
     /// The state that a step left its receiver in: it woke, it closed, or nothing changed.

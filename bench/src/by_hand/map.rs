@@ -13,9 +13,12 @@ pub fn read(bytes: &[u8], map: &mut Map) -> Result<(), Refusal> {
     if !(12..=40).contains(&row) || row % 4 != 0 {
         return Err((2, 0));
     }
-    let k = usize::from(u16::from_le_bytes([trailer[0], trailer[1]]));
+    let (k, desk) = (usize::from(trailer[0]), trailer[1]);
     if !(1..=64).contains(&k) {
         return Err((3, 0));
+    }
+    if usize::from(desk) >= k {
+        return Err((19, 0));
     }
     if usize::from(u16::from_le_bytes([trailer[4], trailer[5]])) != row * k {
         return Err((4, 0));
@@ -30,11 +33,11 @@ pub fn read(bytes: &[u8], map: &mut Map) -> Result<(), Refusal> {
         let at = row.len() - SET;
         *set = u64::from(word(&row[at..])) | u64::from(word(&row[at + 4..])) << 32;
     }
-    accept(&sets[..k])?;
+    accept(desk, &sets[..k])?;
     let classes = (row - SET) / 4;
     let counts = [[0; 8]; 64];
     let lot = u64::from(word(&trailer[8..])) | u64::from(u16::from_le_bytes([trailer[6], trailer[7]])) << 32;
-    *map = Map { k: k as u8, classes: classes as u8, lot, counts, neighbours: sets };
+    *map = Map { k: k as u8, classes: classes as u8, desk, lot, counts, neighbours: sets };
     for (counts, row) in map.counts.iter_mut().zip(rows) {
         for (count, four) in counts.iter_mut().zip(row[..row.len() - SET].chunks_exact(4)) {
             *count = word(four);
@@ -50,8 +53,11 @@ pub fn write(map: &Map, buffer: &mut [u8]) -> Result<(), Refusal> {
     if !(1..=64).contains(&map.k) {
         return Err((3, 0));
     }
+    if map.desk >= map.k {
+        return Err((19, 0));
+    }
     let (k, classes) = (usize::from(map.k), usize::from(map.classes));
-    accept(&map.neighbours[..k])?;
+    accept(map.desk, &map.neighbours[..k])?;
     if map.lot >= 1 << 48 {
         return Err((18, 0));
     }
@@ -70,7 +76,8 @@ pub fn write(map: &Map, buffer: &mut [u8]) -> Result<(), Refusal> {
         sum = sum.wrapping_add(set as u32).wrapping_add((set >> 32) as u32);
     }
     let upper = (map.lot >> 32) as u32;
-    let numbers = [u32::from(map.k) | (row_length as u32) << 16, (row_length * k) as u32 | upper << 16, map.lot as u32];
+    let stations = u32::from(map.k) | u32::from(map.desk) << 8;
+    let numbers = [stations | (row_length as u32) << 16, (row_length * k) as u32 | upper << 16, map.lot as u32];
     for (four, number) in trailer.chunks_exact_mut(4).zip(numbers) {
         four.copy_from_slice(&number.to_le_bytes());
         sum = sum.wrapping_add(number);
@@ -83,14 +90,14 @@ fn word(bytes: &[u8]) -> u32 {
     u32::from_le_bytes([bytes[0], bytes[1], bytes[2], bytes[3]])
 }
 
-fn accept(sets: &[u64]) -> Result<(), Refusal> {
+fn accept(desk: u8, sets: &[u64]) -> Result<(), Refusal> {
     let k = sets.len();
     let stations = u64::MAX >> (64 - k);
     lowest(sets, 7, |_, set| set & !stations != 0)?;
     lowest(sets, 8, |i, set| set >> i & 1 != 0)?;
     let namers = transposed(sets);
     lowest(sets, 9, |i, set| set & !namers[i] != 0)?;
-    let apart = stations & !reached(sets);
+    let apart = stations & !reached(desk, sets);
     lowest(sets, 10, |i, _| apart >> i & 1 != 0)
 }
 
@@ -120,8 +127,8 @@ fn transposed(sets: &[u64]) -> [u64; 64] {
     rows
 }
 
-fn reached(sets: &[u64]) -> u64 {
-    let (mut reached, mut ahead) = (1, 1u64);
+fn reached(desk: u8, sets: &[u64]) -> u64 {
+    let (mut reached, mut ahead) = (1 << desk, 1u64 << desk);
     while ahead != 0 {
         let new = sets[ahead.trailing_zeros() as usize] & !reached;
         ahead = (ahead & (ahead - 1)) | new;

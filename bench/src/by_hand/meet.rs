@@ -13,7 +13,7 @@ pub fn step(net: &mut Meet, step: Step) -> Result<Step, Refusal> {
     if !are_in_form(net.config, &net.stations) {
         return Err((11, 0));
     }
-    if !is_in_range(net.config.k, REPORT, step) {
+    if !is_in_range(net.config, REPORT, step) {
         return Err((12, 0));
     }
     if !is_allowed(net, step) {
@@ -64,6 +64,7 @@ impl Awake {
 
     /// Entry d mod c of the allowed steps.
     fn pick(&self, net: &Meet, draw: u16) -> Option<Step> {
+        let desk = net.config.desk;
         let (mut wakes, mut passes, mut ready) = (0, 0, 0u64);
         let mut senders = self.active;
         while senders != 0 {
@@ -72,9 +73,10 @@ impl Awake {
             let station = &net.stations[i as usize];
             wakes += (station.unstarted & self.asleep).count_ones();
             passes += (station.unstarted & self.active).count_ones();
-            ready |= u64::from(is_ready(station) && (i == 0 || self.active >> station.parent & 1 != 0)) << i;
+            ready |=
+                u64::from(is_ready(station) && (i == u32::from(desk) || self.active >> station.parent & 1 != 0)) << i;
         }
-        let (answers, reports) = (ready & !1, ready as u32 & 1);
+        let (answers, reports) = (ready & !(1 << desk), (ready >> desk) as u32 & 1);
         let count = wakes + passes + answers.count_ones() + reports;
         if count == 0 {
             return None;
@@ -92,7 +94,7 @@ impl Awake {
             let sender = member(answers, entry);
             return Some(Step { kind: ANSWER, sender, receiver: net.stations[usize::from(sender)].parent });
         }
-        Some(Step { kind: REPORT, sender: 0, receiver: 0 })
+        Some(Step { kind: REPORT, sender: desk, receiver: desk })
     }
 
     /// The start with a number of others before it, to receivers in one state.
@@ -127,7 +129,11 @@ fn is_allowed(net: &Meet, Step { kind, sender, receiver }: Step) -> bool {
         && match kind {
             REPORT => is_ready(from),
             ANSWER => {
-                sender != 0 && sender != receiver && is_ready(from) && from.parent == receiver && to.state == ACTIVE
+                sender != net.config.desk
+                    && sender != receiver
+                    && is_ready(from)
+                    && from.parent == receiver
+                    && to.state == ACTIVE
             }
             _ => from.unstarted >> receiver & 1 != 0 && to.state == if kind == WAKE { ASLEEP } else { ACTIVE },
         }
@@ -135,7 +141,7 @@ fn is_allowed(net: &Meet, Step { kind, sender, receiver }: Step) -> bool {
 
 fn make(net: &mut Meet, Step { kind, sender, receiver }: Step) {
     if kind == REPORT {
-        net.stations[0].state = FINISHED;
+        net.stations[usize::from(sender)].state = FINISHED;
         return;
     }
     let places = [usize::from(sender), usize::from(receiver)];

@@ -17,14 +17,15 @@ pub fn fresh(map: &Map) -> [Station; 64] {
             }
         }
         station.unstarted = set;
+        station.parent = map.desk;
         station.waits = set.count_ones() as u8;
     }
-    stations[0].state = ACTIVE;
+    stations[usize::from(map.desk)].state = ACTIVE;
     stations
 }
 
-pub fn are_in_form(Config { k, classes }: Config, stations: &[Station; 64]) -> bool {
-    if !(1..=64).contains(&k) || !(1..=8).contains(&classes) {
+pub fn are_in_form(Config { k, classes, desk }: Config, stations: &[Station; 64]) -> bool {
+    if !(1..=64).contains(&k) || !(1..=8).contains(&classes) || desk >= k {
         return false;
     }
     let below_k = below(k);
@@ -35,7 +36,7 @@ pub fn are_in_form(Config { k, classes }: Config, stations: &[Station; 64]) -> b
             && station.unstarted >> own & 1 == 0
             && station.waits <= 64
             && is_bounded(&station.held, classes)
-            && (own == 0 || usize::from(station.parent) != own)
+            && (own == usize::from(desk) || usize::from(station.parent) != own)
     })
 }
 
@@ -65,8 +66,8 @@ pub fn below(k: u8) -> u64 {
 }
 
 /// Where the report has the last number of the kinds.
-pub fn is_in_range(k: u8, report: u8, Step { kind, sender, receiver }: Step) -> bool {
-    (1..=report).contains(&kind) && sender < k && receiver < k && (kind != report || sender == 0 && receiver == 0)
+pub fn is_in_range(Config { k, desk, .. }: Config, report: u8, Step { kind, sender, receiver }: Step) -> bool {
+    (1..=report).contains(&kind) && sender < k && receiver < k && (kind != report || sender == desk && receiver == desk)
 }
 
 /// The stations below k in a state.

@@ -16,7 +16,7 @@ abbrev pub only : ℕ → Aggregate
 only n = places (λ i. cond (eqb i 0) (record { sum = n; missing = 0 }) zeroCell)
 
 abbrev line : Config
-line = record { k = 3; classes = 2 }
+line = record { k = 3; classes = 2; desk = 0 }
 
 -- a head with something in the places past its classes
 abbrev head : ℕ → ℕ → Reading

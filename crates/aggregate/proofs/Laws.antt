@@ -1,7 +1,7 @@
 -- What the crates above know of aggregates: the cells of a join are the cells joined, the cells of what is given are the cells, a bounded
 -- aggregate is one of bounded cells, and what a valid configuration says. Each is the definition, place by place. Assumes nothing.
 use mathlib.Core.Path.{_≡_, refl, sym, ap, ap₂, _∙_, fun-ext}
-use mathlib.Core.Bool.{Bool, true, false, cond}
+use mathlib.Core.Bool.{Bool, true, false, cond, _&&_}
 use mathlib.Core.List.{List}
 use Prim.Native.Nat.{ℕ, _-_, _^_, _<_, _≤_}
 use native.Mathlib.Omega.{arith}
@@ -25,9 +25,12 @@ pub class-count : (c : ℕ) → isClassCount c ≡ true → (1 ≤ c) × (c ≤ 
 class-count c h = let both = and-both (ltb 0 c) (leb c 8) h in (ltb-true 0 c (both .0), leb-true c 8 (both .1))
 
 module _ (t : Config) (h : valid t ≡ true) where
-  pub valid-parts : (isStationCount (t .k) ≡ true) × (isClassCount (t .classes) ≡ true)
+  pub valid-parts : (isStationCount (t .k) ≡ true) × (isClassCount (t .classes) ≡ true) × (rootOf t < t .k)
   unfolding valid
-  valid-parts = and-both (isStationCount (t .k)) (isClassCount (t .classes)) h
+  valid-parts =
+      let last = and-both (isStationCount (t .k) && isClassCount (t .classes)) (ltb (rootOf t) (t .k)) h in
+      let first = and-both (isStationCount (t .k)) (isClassCount (t .classes)) (last .0) in
+      (first .0, first .1, ltb-true (rootOf t) (t .k) (last .1))
 
   -- k of a valid configuration
   pub valid-k : (1 ≤ t .k) × (t .k ≤ 64)
@@ -35,13 +38,17 @@ module _ (t : Config) (h : valid t ≡ true) where
 
   -- the root is one of the stations
   pub root-below : rootOf t < t .k
-  unfolding rootOf
-  root-below = valid-k .0
+  root-below = valid-parts .2
 
--- the root is the same for every configuration
-pub root-alike : (t u : Config) → rootOf t ≡ rootOf u
+-- so a configuration is valid
+pub valid-of : (t : Config) → isStationCount (t .k) ≡ true → isClassCount (t .classes) ≡ true → rootOf t < t .k → valid t ≡ true
+unfolding valid
+valid-of t k c r = rw (k, c, lt-ltb (rootOf t) (t .k) r)
+
+-- the root is the desk, whatever else a configuration has
+pub root-desk : (t : Config) → rootOf t ≡ t .desk
 unfolding rootOf
-root-alike t u = refl
+root-desk t = refl
 
 -- the bounds at their edges, by computation: "sums and posted sums below 2^62" (document 01, Causes and numbers), "A missing number above
 -- 64 is out of form" (document 02, request 1)

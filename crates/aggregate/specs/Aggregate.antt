@@ -13,17 +13,18 @@ use Rattle.aggregate.specs.declared.Reading.{Reading}
 use Rattle.aggregate.specs.declared.Cell.{Cell}
 use Rattle.aggregate.specs.declared.Aggregate.{Aggregate}
 
--- "station 0 is the desk" (The line map)
+-- "A net or station record carries its desk" (document 02, request 5)
 unfoldable pub rootOf : Config → ℕ
-rootOf t = 0
+rootOf t = t .desk
 
 -- "c counts, 1 to 8" (document 02, request 2)
 abbrev pub isClassCount : ℕ → Bool
 isClassCount c = ltb 0 c && leb c 8
 
--- "k 1 to 64" (Causes and numbers, form); "a net or station with such a c is out of form" (document 02, request 2)
+-- "k 1 to 64" (Causes and numbers, form); "a net or station with such a c is out of form" (document 02, request 2), and so is a desk "not
+-- below k" (request 5)
 unfoldable pub valid : Config → Bool
-valid t = isStationCount (t .k) && isClassCount (t .classes)
+valid t = isStationCount (t .k) && isClassCount (t .classes) && ltb (rootOf t) (t .k)
 
 -- the classes in use: c, of eight places
 abbrev pub used : Config → ℕ

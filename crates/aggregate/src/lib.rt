@@ -7,11 +7,12 @@ ghost use Rattle.finite.specs.Numbers.{bytes};
 ghost use Rattle.aggregate.specs.Aggregate.{rootOf, isClassCount, valid, used, cell, cellBounded, bounded, nothing, cellGathered, gathered};
 ghost use Rattle.aggregate.specs.Aggregate.{joined, joinable, clipped, missingWord, fromWords, ofWords};
 
-// What a net is opened with: the number of its stations, and of the classes that are counted.
+// What a net is opened with: the number of its stations, and of the classes that are counted, and its desk.
 #[repr(C)]
 pub struct Config {
     pub k: u8,
     pub classes: u8,
+    pub desk: u8,
 }
 
 // What a station counted, class by class; the largest count stands for no reading.
@@ -38,9 +39,6 @@ pub struct Joined {
     pub held: Aggregate,
 }
 
-// The station that starts the wave and reports.
-const ROOT: u8 = 0;
-
 const MOST_CLASSES: usize = 8;
 
 // The count of a head without a reading.
@@ -52,11 +50,11 @@ const SUM_LIMIT: u64 = 1 << 62;
 // Their missing numbers are at most this.
 const MOST_MISSING: u8 = 64;
 
-// The root (01: the desk).
+// The root, which starts the wave and reports (01: the desk).
 pub fn root(t: Config) -> u8
     ensures { λ r. ⌜ r ≡ rootOf t ⌝ }
 {
-    ROOT
+    t.desk
 }
 
 // Whether there may be so many classes.
@@ -70,7 +68,7 @@ pub fn is_class_count(c: u64) -> bool
 pub fn is_valid(t: Config) -> bool
     ensures { λ r. ⌜ r ≡ valid t ⌝ }
 {
-    bitset::is_station_count(t.k as u64) & is_class_count(t.classes as u64)
+    bitset::is_station_count(t.k as u64) & is_class_count(t.classes as u64) & (root(t) < t.k)
 }
 
 // How many classes are in use: loops over them end there.

@@ -5,7 +5,7 @@ use mathlib.Core.List.{List}
 use Prim.Native.Nat.{ℕ, _≤_, _<_, zero-le}
 use native.Mathlib.Nat.{mul-le-mul-right}
 use native.Mathlib.Omega.{arith}
-use lib.Dec.{leb}
+use lib.Dec.{leb, ltb}
 use borrow.Author.Tests.{leb-false}
 use Rattle.aggregate.specs.Aggregate.{rootOf, isClassCount}
 use Rattle.aggregate.proofs.Laws.{class-count}
@@ -14,7 +14,7 @@ use Rattle.finite.specs.Tests.{unless}
 use Rattle.topology.specs.Acceptance.{faultNumbers, lowest, overAll, verdictOf}
 use Rattle.bitset.specs.Set.{isStationCount}
 use Rattle.topology.specs.declared.Fault.{Fault}
-use Rattle.topology.specs.declared.Fault.the-variants.{Classes, Stations, Beyond, Itself, OneWay, Apart}
+use Rattle.topology.specs.declared.Fault.the-variants.{Classes, Stations, Desk, Beyond, Itself, OneWay, Apart}
 use Rattle.linemap.specs.declared.Map.{Map}
 use Rattle.linemap.specs.Writing.{isStorable, writing}
 use Rattle.linemap.specs.Maps.{configOf, acceptance}
@@ -38,10 +38,11 @@ unfolding verdictOf
 verdict-small root k sets =
     unless-small 64 (isStationCount k) (faultNumbers Stations) _ (λ many. zero-le) (λ few.
     let small = few-stations k few in
+    unless-small 64 (ltb root k) (faultNumbers Desk) _ (λ high. zero-le) (λ low.
     over-all-small 64 k _ Beyond _ (λ i. refl) small
     (over-all-small 64 k _ Itself _ (λ i. refl) small
     (over-all-small 64 k _ OneWay _ (λ i. refl) small
-    (over-all-small 64 k _ Apart _ (λ i. refl) small zero-le))))
+    (over-all-small 64 k _ Apart _ (λ i. refl) small zero-le)))))
 
 acceptance-small : (m : Map) → valueOf (acceptance m) ≤ 64
 acceptance-small m =

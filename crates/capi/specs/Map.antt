@@ -7,10 +7,11 @@ use Rattle.linemap.specs.Reading.{reading}
 use Rattle.linemap.specs.Writing.{writing, written}
 use Rattle.capi.specs.Answers.{packed, Called, called, replacing}
 
--- "Reading goes 1 to 10" (Causes and numbers)
+-- "Reading goes 1 to 10" (Causes and numbers), with 19 after 3 (document 02, request 5)
 abbrev pub readCall : List ℕ → Map → Called ℕ Map
 readCall s before = replacing (reading s .numbers) before (reading s .map)
 
--- "a map handed over goes 3, 7 to 10, and to be written then 15" (Causes and numbers), with 18 before it (document 02, request 4)
+-- "a map handed over goes 3, 7 to 10, and to be written then 15" (Causes and numbers), with 19 after 3 and 18 before 15 (document 02, requests
+-- 5 and 4)
 abbrev pub writeCall : Map → List ℕ → Called ℕ (List ℕ)
 writeCall m s = called (packed (writing m (length s))) (written m s)

@@ -37,6 +37,7 @@ pub(crate) fn fault(why: Fault) -> u64
     match why {
         Fault::Classes => 2,
         Fault::Stations => 3,
+        Fault::Desk => 19,
         Fault::Beyond(i) => with_value(7, i as u32),
         Fault::Itself(i) => with_value(8, i as u32),
         Fault::OneWay(i) => with_value(9, i as u32),

@@ -3,7 +3,7 @@
 use mathlib.Core.Path.{_≡_, refl, sym, ap, _∙_}
 use mathlib.Core.Bool.{Bool, true}
 use mathlib.Core.List.{List, [], _∷_, _++_, map}
-use Prim.Native.Nat.{ℕ, _-_}
+use Prim.Native.Nat.{ℕ, _+_, _-_, _<_}
 use native.Mathlib.Omega.{arith}
 use lib.ListN.{length, getD, length-map, length-append, List·getD-map}
 use lib.Seq.{getD-append-seam}
@@ -39,14 +39,17 @@ module _ (K : Kind) where
   messages-counted made i j = times-passing (labelOf (K .rules)) (wave.message i j) (isMessage K i j) (message-label i j) made
 
   pub last-is-report : (made : List Step) (front : List wave.Step) → map (labelOf (K .rules)) made ≡ front ++ (wave.report ∷ [])
-      → isReport K (getD made (length made - 1) (step 0 0 0)) ≡ true
+      → (length made - 1 < length made) × (isReport K (getD made (length made - 1) (step 0 0 0)) ≡ true)
   last-is-report made front e =
       let label = labelOf (K .rules) in
       let last = length made - 1 in
-      let at : last ≡ length front = omega (arith, length-map made label, ap length e, length-append front (wave.report ∷ [])) in
-      sym (report-label (getD made last (step 0 0 0)))
-      ∙ ap (same wave.report)
-      (sym (List·getD-map label made last (step 0 0 0))
-      ∙ ap (λ (l : List wave.Step). getD l last (label (step 0 0 0))) e
-      ∙ ap (λ (n : ℕ). getD (front ++ (wave.report ∷ [])) n (label (step 0 0 0))) at
-      ∙ getD-append-seam front wave.report [] (label (step 0 0 0)))
+      let long : length made ≡ length front + 1 = omega (arith, length-map made label, ap length e, length-append front (wave.report ∷ [])) in
+      let at : last ≡ length front = omega (arith, long) in (
+        omega (arith, long),
+        sym (report-label (getD made last (step 0 0 0)))
+            ∙ ap (same wave.report)
+            (sym (List·getD-map label made last (step 0 0 0))
+            ∙ ap (λ (l : List wave.Step). getD l last (label (step 0 0 0))) e
+            ∙ ap (λ (n : ℕ). getD (front ++ (wave.report ∷ [])) n (label (step 0 0 0))) at
+            ∙ getD-append-seam front wave.report [] (label (step 0 0 0))),
+      )

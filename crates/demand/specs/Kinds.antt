@@ -12,7 +12,7 @@ use Rattle.linemap.specs.declared.Map.{Map}
 use Rattle.linemap.specs.Maps.{configOf}
 use Rattle.schedule.specs.declared.Step.{Step}
 use Rattle.schedule.specs.Rules.{Rules}
-use Rattle.schedule.specs.Listing.{select}
+use Rattle.schedule.specs.Listing.{select, step}
 use Rattle.schedule.specs.Calls.{Call, callsMade, callsNet}
 use Rattle.rendezvous.specs.Net as rendezvous-net
 use Rattle.rendezvous.specs.Rules as rendezvous-rules
@@ -37,6 +37,10 @@ meeting =
 abbrev pub mailing : Kind
 mailing = record { Net = mailbox-net.Net; rules = mailbox-rules.rules; fresh = mailbox-opening.freshOn; station = mailbox-net.station }
 
+-- "that desk" (document 02, request 5): the map's
+abbrev pub desk : Map → ℕ
+desk m = rootOf (configOf m)
+
 -- how many steps of a list pass a test
 abbrev pub howMany : (Step → Bool) → List Step → ℕ
 howMany test steps = length (select test steps)
@@ -46,13 +50,17 @@ module _ (K : Kind) where
   abbrev pub isReport : Step → Bool
   isReport s = eqb (s .kind) (K .rules .reports)
 
+  -- "that desk's report" (document 02, request 5), at the desk and the desk
+  abbrev pub deskReport : Map → Step
+  deskReport m = step (K .rules .reports) (desk m) (desk m)
+
   -- "Every step made but a report is one message, carried by the link of its two stations from sender to receiver"
   abbrev pub isMessage : ℕ → ℕ → Step → Bool
   isMessage i j s = not (isReport s) && eqb i (s .sender) && eqb j (s .receiver)
 
   -- "the desk's sum", and its missing number, of each class
   abbrev pub deskHeld : Map → K .Net → Aggregate
-  deskHeld m net = K .station net (rootOf (configOf m)) .held
+  deskHeld m net = K .station net (desk m) .held
 
   module _ (m : Map) (calls : List Call) where
     -- "The steps made, in order", by a list that "starts from the fresh net"

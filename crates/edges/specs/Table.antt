@@ -41,7 +41,7 @@ runs draws m = input (flatMap (bytes 2) draws ++ storedOf m)
 -- a map of one class, of these counts and sets: a station's count is the first of its eight places
 abbrev pub mapOf : List ℕ → List ℕ → Map
 mapOf counts sets =
-    record { k = length counts; classes = 1; lot = 42; counts = flatMap (λ (n : ℕ). n ∷ replicate 7 0) counts; neighbours = sets }
+    record { k = length counts; classes = 1; desk = 0; lot = 42; counts = flatMap (λ (n : ℕ). n ∷ replicate 7 0) counts; neighbours = sets }
 
 -- "counts 5, 7, 11; sets 6, 5, 3; lot 42"
 abbrev pub triangle : Map

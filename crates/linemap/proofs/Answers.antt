@@ -8,7 +8,7 @@ use lib.ListN.{getD}
 use lib.Dec.{eqb}
 use Rattle.finite.proofs.Cases.{clash}
 use Rattle.topology.specs.Answer.{isAccepted}
-use Rattle.topology.specs.declared.Fault.the-variants.{Classes, Stations, Beyond, Itself, OneWay, Apart}
+use Rattle.topology.specs.declared.Fault.the-variants.{Classes, Stations, Desk, Beyond, Itself, OneWay, Apart}
 use Rattle.topology.proofs.Answers.{faultFrom, fault-refuses}
 use Rattle.linemap.specs.Reading.{readFaultNumbers, readNumbers, ReadOutcome, readOutcomeOf}
 use Rattle.linemap.specs.Writing.{writeFaultNumbers, writeNumbers}
@@ -45,6 +45,7 @@ read-again read.Rows = refl
 read-again read.CheckWord = refl
 read-again (read.Unfit Classes) = refl
 read-again (read.Unfit Stations) = refl
+read-again (read.Unfit Desk) = refl
 read-again (read.Unfit (Beyond i)) = refl
 read-again (read.Unfit (Itself i)) = refl
 read-again (read.Unfit (OneWay i)) = refl
@@ -55,6 +56,7 @@ write-again (write.Buffer n) = refl
 write-again write.Lot = refl
 write-again (write.Unfit Classes) = refl
 write-again (write.Unfit Stations) = refl
+write-again (write.Unfit Desk) = refl
 write-again (write.Unfit (Beyond i)) = refl
 write-again (write.Unfit (Itself i)) = refl
 write-again (write.Unfit (OneWay i)) = refl

@@ -1,5 +1,5 @@
--- Document 01's examples on reading and writing ("The program" and "Edges"), one of two classes, and one with a long lot, computed.
--- Assumes nothing.
+-- Document 01's examples on reading and writing ("The program" and "Edges"), one of two classes, one with a long lot, and one with another
+-- desk, computed. Assumes nothing.
 use mathlib.Core.Path.{_≡_, refl}
 use mathlib.Core.List.{List, [], _∷_, _++_}
 use Prim.Native.Nat.{ℕ}
@@ -29,22 +29,28 @@ unfolding reading number
 zeros = refl
 
 -- "counts 5, 7, 11; sets 6, 5, 3; lot 42; check word 4294180746"
-abbrev triangle : Map
-triangle =
+abbrev at-desk : ℕ → Map
+at-desk desk =
     record {
       k = 3;
       classes = 1;
+      desk = desk;
       lot = 42;
       counts = 5 ∷ replicate 7 0 ++ 7 ∷ replicate 7 0 ++ 11 ∷ replicate 495 0;
       neighbours = 6 ∷ 5 ∷ 3 ∷ replicate 61 0;
     }
 
-abbrev triangle-bytes : List ℕ
-triangle-bytes =
+abbrev triangle : Map
+triangle = at-desk 0
+
+abbrev triangle-rows : List ℕ
+triangle-rows =
     5 ∷ 0 ∷ 0 ∷ 0 ∷ 6 ∷ 0 ∷ 0 ∷ 0 ∷ 0 ∷ 0 ∷ 0 ∷ 0
     ∷ 7 ∷ 0 ∷ 0 ∷ 0 ∷ 5 ∷ 0 ∷ 0 ∷ 0 ∷ 0 ∷ 0 ∷ 0 ∷ 0
-    ∷ 11 ∷ 0 ∷ 0 ∷ 0 ∷ 3 ∷ 0 ∷ 0 ∷ 0 ∷ 0 ∷ 0 ∷ 0 ∷ 0
-    ∷ 3 ∷ 0 ∷ 12 ∷ 0 ∷ 36 ∷ 0 ∷ 0 ∷ 0 ∷ 42 ∷ 0 ∷ 0 ∷ 0 ∷ 138 ∷ 255 ∷ 243 ∷ 255 ∷ []
+    ∷ 11 ∷ 0 ∷ 0 ∷ 0 ∷ 3 ∷ 0 ∷ 0 ∷ 0 ∷ 0 ∷ 0 ∷ 0 ∷ 0 ∷ []
+
+abbrev triangle-bytes : List ℕ
+triangle-bytes = triangle-rows ++ (3 ∷ 0 ∷ 12 ∷ 0 ∷ 36 ∷ 0 ∷ 0 ∷ 0 ∷ 42 ∷ 0 ∷ 0 ∷ 0 ∷ 138 ∷ 255 ∷ 243 ∷ 255 ∷ [])
 
 check-word : number triangle-bytes 48 4 ≡ 4294180746
 unfolding number
@@ -83,6 +89,7 @@ pair =
     record {
       k = 2;
       classes = 2;
+      desk = 0;
       lot = 7;
       counts = 3 ∷ 4294967295 ∷ replicate 6 0 ++ 4 ∷ 9 ∷ replicate 502 0;
       neighbours = 2 ∷ 1 ∷ replicate 62 0;
@@ -114,7 +121,7 @@ other-rows = (refl, refl, refl)
 
 -- the longest lot (document 02, request 4): its upper part stands beside the distance
 abbrev unlinked : (k lot : ℕ) → Map
-unlinked k lot = record { k = k; classes = 1; lot = lot; counts = 9 ∷ replicate 511 0; neighbours = replicate 64 0 }
+unlinked k lot = record { k = k; classes = 1; desk = 0; lot = lot; counts = 9 ∷ replicate 511 0; neighbours = replicate 64 0 }
 
 abbrev longest : List ℕ
 longest =
@@ -142,3 +149,21 @@ still-accepted = refl
 -- "A map handed over with c not 1 to 8 gets 2, before 3"
 no-classes : (acceptance emptyMap ≡ 2 ∷ []) × (linksIn emptyMap ≡ 2 ∷ [])
 no-classes = (refl, refl)
+
+-- "The upper byte of the trailer's 2-byte field for k names the desk; k is the lower byte" (document 02, request 5)
+abbrev desk-trailer : (k desk back : ℕ) → List ℕ
+desk-trailer k desk back = k ∷ desk ∷ 12 ∷ 0 ∷ back ∷ 0 ∷ 0 ∷ 0 ∷ 42 ∷ 0 ∷ 0 ∷ 0 ∷ 138 ∷ 253 ∷ 243 ∷ 255 ∷ []
+
+desk-stored : storedOf (at-desk 2) ≡ triangle-rows ++ desk-trailer 3 2 36
+unfolding storedOf bodyOf trailerBytes rowBytes countBytes each bytes checkWord sumWords number
+desk-stored = refl
+
+desk-reads : reading (triangle-rows ++ desk-trailer 3 2 36) ≡ readAs (at-desk 2)
+unfolding reading grid column tabulate each sumWords number verdictOf firstFrom member within anyBelow near rootOf
+desk-reads = refl
+
+-- "19 when the desk is not below k, after 3": read, before 4; handed over
+no-desk : (reading (triangle-rows ++ desk-trailer 3 3 35) .numbers ≡ 19 ∷ []) × (reading (triangle-rows ++ desk-trailer 0 3 36) .numbers ≡ 3 ∷ [])
+    × (acceptance (at-desk 3) ≡ 19 ∷ [])
+unfolding reading number verdictOf rootOf
+no-desk = (refl, refl, refl)

@@ -12,7 +12,7 @@ use Rattle.finite.proofs.Cases.{by-bool}
 use Rattle.finite.specs.Below.{each, tabulate}
 use Rattle.finite.specs.Numbers.{number}
 use Rattle.linemap.specs.Stored.{rowLength}
-use Rattle.linemap.specs.Reading.{readAs, trailerIn, classesIn, stationsIn, lotIn, startIn, column, grid, mapAt, reading}
+use Rattle.linemap.specs.Reading.{readAs, trailerIn, classesIn, stationsIn, deskIn, lotIn, startIn, column, grid, mapAt, reading}
 use Rattle.linemap.specs.RoundTrip.{Fits}
 use Rattle.linemap.specs.declared.Map.{Map}
 use Rattle.finite.proofs.Digits.{number-small}
@@ -66,7 +66,7 @@ read-fits s m byte e =
     let c = classesIn s in
     let k = stationsIn s in
     let start = startIn s in
-    let fits : Fits (mapAt s c k (lotIn s) start) =
+    let fits : Fits (mapAt s c k (deskIn s) (lotIn s) start) =
     record {
       counts = grid-small (2 ^ 32) (lit< tt) _ c k (λ i j. number-small s byte 4 (start + rowLength c * i + 4 * j));
       neighbours = column-small (2 ^ 64) (lit< tt) 64 _ k (λ i. number-small s byte 8 (start + rowLength c * i + 4 * c));

@@ -11,7 +11,7 @@ use Rattle.finite.specs.Numbers.{number, bytes}
 use Rattle.linemap.specs.Words.{sumWords}
 use Rattle.finite.specs.Below.{each}
 use Rattle.linemap.specs.Stored.{rowLength, lengthOf, wordCount, countBytes, rowBytes, trailerBytes, bodyOf, storedOf, checkWord}
-use Rattle.linemap.specs.Reading.{readAs, trailerIn, stationsIn, classesIn, lotIn, startIn, countIn, mapAt, reading}
+use Rattle.linemap.specs.Reading.{readAs, trailerIn, stationsIn, deskIn, classesIn, lotIn, startIn, countIn, mapAt, reading}
 use Rattle.linemap.specs.Maps.{countAt}
 use Rattle.linemap.specs.declared.Map.{Map}
 use Rattle.linemap.proofs.Each.{each-same, column-at, grid-at}
@@ -42,7 +42,7 @@ module _ (s : List ℕ) (byte : (i : ℕ) → getD s i 0 < 2 ^ 8) {n : Map} (r :
   start = startIn s
 
   abbrev m : Map
-  m = mapAt s c k (lotIn s) start
+  m = mapAt s c k (deskIn s) (lotIn s) start
 
   -- a number of the trailer, written again
   field : (n v at to : ℕ) → number s at n ≡ v → at ≡ to → to + n ≤ length s → bytes n v ≡ segment s to n
@@ -76,7 +76,7 @@ module _ (s : List ℕ) (byte : (i : ℕ) → getD s i 0 < 2 ^ 8) {n : Map} (r :
   rows-are : each (rowBytes c (m .counts) (m .neighbours)) k ≡ segment s start (w * k)
   rows-are = each-same _ _ k row-is ∙ each-segment s start w k
 
-  trailer-is : trailerBytes w k (m .lot) ≡ segment s (start + w * k) 12
+  trailer-is : trailerBytes w k (m .desk) (m .lot) ≡ segment s (start + w * k) 12
   unfolding trailerBytes
   trailer-is =
       let t = start + w * k in
@@ -85,7 +85,9 @@ module _ (s : List ℕ) (byte : (i : ℕ) → getD s i 0 < 2 ^ 8) {n : Map} (r :
       join t 8 4
       (join t 6 2
       (join t 4 2
-      (join t 2 2 (field 2 k (trailerIn s) t refl (omega arith) (omega arith))
+      (join t 2 2
+      (join t 1 1 (field 1 k (trailerIn s) t refl (omega arith) (omega arith))
+      (field 1 (deskIn s) (trailerIn s + 1) (t + 1) refl (omega arith) (omega arith)))
       (field 2 w (trailerIn s + 2) (t + 2) (r .row) (omega arith) (omega arith)))
       (field 2 (w * k) (trailerIn s + 4) (t + 4) (r .back) (omega arith) (omega arith)))
       (field 2 (lotIn s / 2 ^ 32) (trailerIn s + 6) (t + 6) (omega arith) (omega arith) (omega arith)))

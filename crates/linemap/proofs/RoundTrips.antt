@@ -28,6 +28,7 @@ cleared-equal m ok =
     record {
       k = refl;
       classes = refl;
+      desk = refl;
       lot = refl;
       counts = λ i j h l. grid-at (countAt m) (m .classes) few (m .k) i j h l;
       neighbours = λ i h. column-at 64 (λ j. getD (m .neighbours) j 0) (m .k) i h;
@@ -46,8 +47,8 @@ unfolding bodyOf
 equal-bodies m n e =
     ap₂ (λ (rows trailer : List ℕ). rows ++ trailer)
     (each-same _ _ (m .k) (equal-rows m n e) ∙ ap (each (rowBytes (n .classes) (n .counts) (n .neighbours))) (e .k))
-    (ap₂ (λ (c k : ℕ). trailerBytes (rowLength c) k (m .lot)) (e .classes) (e .k)
-    ∙ ap (trailerBytes (rowLength (n .classes)) (n .k)) (e .lot))
+    (ap₂ (λ (c k : ℕ). trailerBytes (rowLength c) k (m .desk) (m .lot)) (e .classes) (e .k)
+    ∙ ap₂ (trailerBytes (rowLength (n .classes)) (n .k)) (e .desk) (e .lot))
 
 equal-written : (m n : Map) → Equal m n → storedOf m ≡ storedOf n
 unfolding storedOf

@@ -18,14 +18,14 @@ use Rattle.bitset.specs.Set.{isStationCount}
 use Rattle.aggregate.specs.Aggregate.{isClassCount}
 use Rattle.aggregate.proofs.Laws.{class-count}
 use Rattle.topology.specs.declared.Fault.{Fault}
-use Rattle.topology.specs.declared.Fault.the-variants.{Classes, Stations}
+use Rattle.topology.specs.declared.Fault.the-variants.{Classes, Stations, Desk}
 use Rattle.topology.proofs.Answers.{fault-refuses}
 use Rattle.finite.specs.Numbers.{number}
 use Rattle.linemap.specs.Words.{sumWords}
 use Rattle.linemap.specs.Maps.{acceptance}
 use Rattle.linemap.specs.Stored.{rowLength, trailerLength, storedLength, lengthOf, wordCount, storedOf}
 use Rattle.linemap.specs.Reading.{readAs, ReadOutcome, readRefused, isRowLength, classesOf, mapAt, judged, reading}
-use Rattle.linemap.specs.Reading.{stationsIn, rowLengthIn, classesIn, distanceIn, lotIn, startIn}
+use Rattle.linemap.specs.Reading.{stationsIn, deskIn, rowLengthIn, classesIn, distanceIn, lotIn, startIn}
 use Rattle.linemap.specs.Writing.{writeFaultNumbers, writeNumbers, isStorable, writing, written}
 use Rattle.linemap.specs.internal.Stages.{trailerOf, trailerAnswer, rowOf, rowsOutcome, put}
 use Rattle.linemap.specs.declared.Map.{Map}
@@ -103,40 +103,42 @@ row-read s c k i w need at set more width-is need-is before e =
     (fits, known .1 ∙ from-front, known .2 ∙ ap₂ (λ (x y : ℕ). number s (x + y) 8) from-front wide)
 
 -- the rows start before the bytes; their words do not add to zero; the map is judged
-module _ (s : List ℕ) (c k lot : ℕ) where
+module _ (s : List ℕ) (c k desk lot : ℕ) where
   abbrev need : ℕ
   need = storedLength c k
 
-  pub rows-outside : length s < need → rowsOutcome s c k lot ≡ readRefused Rows
+  pub rows-outside : length s < need → rowsOutcome s c k desk lot ≡ readRefused Rows
   unfolding rowsOutcome
   rows-outside far = rw (lt-leb need (length s) far)
 
   module _ (fits : need ≤ length s) where
-    pub words-off : (sumWords s (length s - need) (wordCount c k) ≡ 0 → ⊥) → rowsOutcome s c k lot ≡ readRefused CheckWord
+    pub words-off : (sumWords s (length s - need) (wordCount c k) ≡ 0 → ⊥) → rowsOutcome s c k desk lot ≡ readRefused CheckWord
     unfolding rowsOutcome
     words-off ne = rw (le-leb need (length s) fits, ne-eqb (sumWords s (length s - need) (wordCount c k)) 0 ne)
 
-    pub words-add : sumWords s (length s - need) (wordCount c k) ≡ 0 → rowsOutcome s c k lot ≡ judged (mapAt s c k lot (length s - need))
+    pub words-add : sumWords s (length s - need) (wordCount c k) ≡ 0 → rowsOutcome s c k desk lot ≡ judged (mapAt s c k desk lot (length s - need))
     unfolding rowsOutcome
     words-add zero = rw (le-leb need (length s) fits, eq-eqb (sumWords s (length s - need) (wordCount c k)) 0 zero)
 
--- what an answer of 2 to 4 makes of the rest of a reading, and the reading of a trailer that was read
+-- what an answer of 2, 3, 19 and 4 makes of the rest of a reading, and the reading of a trailer that was read
 abbrev pub answered : ReadAnswer → ReadOutcome → ReadOutcome
 answered (answer.Refused fault) rest = readRefused fault
 answered answer.Accepted rest = rest
 
 abbrev pub ruled : List ℕ → TrailerRead → ReadOutcome
 ruled s trailer.Short = readRefused Short
-ruled s (trailer.Fields k row distance lot) = answered (trailerAnswer k row distance) (rowsOutcome s (classesOf row) k lot)
+ruled s (trailer.Fields k desk row distance lot) = answered (trailerAnswer k desk row distance) (rowsOutcome s (classesOf row) k desk lot)
 
-answered-unless : (row count back : Bool) (rest : ReadOutcome)
-    → unless row (readRefused (Unfit Classes)) (unless count (readRefused (Unfit Stations)) (unless back (readRefused Distance) rest))
-    ≡ answered (unless row (answer.Refused (Unfit Classes))
-    (unless count (answer.Refused (Unfit Stations)) (unless back (answer.Refused Distance) answer.Accepted))) rest
-answered-unless false count back rest = refl
-answered-unless true false back rest = refl
-answered-unless true true false rest = refl
-answered-unless true true true rest = refl
+answered-unless : (row count desk back : Bool) (rest : ReadOutcome)
+    → unless row (readRefused (Unfit Classes))
+    (unless count (readRefused (Unfit Stations)) (unless desk (readRefused (Unfit Desk)) (unless back (readRefused Distance) rest)))
+    ≡ answered (unless row (answer.Refused (Unfit Classes)) (unless count (answer.Refused (Unfit Stations))
+    (unless desk (answer.Refused (Unfit Desk)) (unless back (answer.Refused Distance) answer.Accepted)))) rest
+answered-unless false count desk back rest = refl
+answered-unless true false desk back rest = refl
+answered-unless true true false back rest = refl
+answered-unless true true true false rest = refl
+answered-unless true true true true rest = refl
 
 ruled-unless : (long : Bool) (s : List ℕ) (fields : TrailerRead) (rest : ReadOutcome) → rest ≡ ruled s fields
     → unless long (readRefused Short) rest ≡ ruled s (unless long trailer.Short fields)
@@ -146,30 +148,34 @@ ruled-unless true s fields rest e = e
 pub reading-ruled : (s : List ℕ) → reading s ≡ ruled s (trailerOf s)
 unfolding reading trailerOf trailerAnswer rowsOutcome
 reading-ruled s =
-    ruled-unless (leb trailerLength (length s)) s (trailer.Fields (stationsIn s) (rowLengthIn s) (distanceIn s) (lotIn s)) _
-    (answered-unless (isRowLength (rowLengthIn s)) (isStationCount (stationsIn s)) (eqb (distanceIn s) (rowLengthIn s * stationsIn s)) _)
+    ruled-unless (leb trailerLength (length s)) s (trailer.Fields (stationsIn s) (deskIn s) (rowLengthIn s) (distanceIn s) (lotIn s)) _
+    (answered-unless (isRowLength (rowLengthIn s)) (isStationCount (stationsIn s)) (ltb (deskIn s) (stationsIn s))
+    (eqb (distanceIn s) (rowLengthIn s * stationsIn s)) _)
 
--- an accepted trailer has a row length and a number of stations
-pub trailer-few : (k row distance : ℕ) → trailerAnswer k row distance ≡ answer.Accepted → (isRowLength row ≡ true) × (0 < k) × (k ≤ 64)
+-- an accepted trailer has a row length, a number of stations and one of them for the desk
+pub trailer-few : (k desk row distance : ℕ) → trailerAnswer k desk row distance ≡ answer.Accepted
+    → (isRowLength row ≡ true) × (0 < k) × (k ≤ 64) × (desk < k)
 unfolding trailerAnswer
-trailer-few k row distance ok =
-    let both = counted (isRowLength row) (isStationCount k) (eqb distance (row * k)) ok in
-    (both .0, some-station k (both .1), few-stations k (both .1))
+trailer-few k desk row distance ok =
+    let all = counted (isRowLength row) (isStationCount k) (ltb desk k) (eqb distance (row * k)) ok in
+    (all .0, some-station k (all .1), few-stations k (all .1), ltb-true desk k (all .2))
   where
-    counted : (row count back : Bool)
-        → unless row (answer.Refused (Unfit Classes))
-        (unless count (answer.Refused (Unfit Stations)) (unless back (answer.Refused Distance) answer.Accepted)) ≡ answer.Accepted
-        → (row ≡ true) × (count ≡ true)
-    counted true true back e = (refl, refl)
-    counted true false back e = let never : _≡_ {A = ℕ} 0 1 = cc in absurd (omega arith)
-    counted false count back e = let never : _≡_ {A = ℕ} 0 1 = cc in absurd (omega arith)
+    counted : (row count desk back : Bool)
+        → unless row (answer.Refused (Unfit Classes)) (unless count (answer.Refused (Unfit Stations))
+        (unless desk (answer.Refused (Unfit Desk)) (unless back (answer.Refused Distance) answer.Accepted))) ≡ answer.Accepted
+        → (row ≡ true) × (count ≡ true) × (desk ≡ true)
+    counted true true true back e = (refl, refl, refl)
+    counted true true false back e = let never : _≡_ {A = ℕ} 0 1 = cc in absurd (omega arith)
+    counted true false desk back e = let never : _≡_ {A = ℕ} 0 1 = cc in absurd (omega arith)
+    counted false count desk back e = let never : _≡_ {A = ℕ} 0 1 = cc in absurd (omega arith)
 
 -- what is left of a reading that 1 to 5 let through
-pub reading-left : (s : List ℕ) (c k lot start : ℕ) → stationsIn s ≡ k → lotIn s ≡ lot → length s ≡ start + storedLength c k
-    → rowLengthIn s ≡ rowLength c → isClassCount c ≡ true → isStationCount k ≡ true → distanceIn s ≡ rowLength c * k
-    → reading s ≡ unless (eqb (sumWords s start (wordCount c k)) 0) (readRefused CheckWord) (judged (mapAt s c k lot start))
+pub reading-left : (s : List ℕ) (c k desk lot start : ℕ) → stationsIn s ≡ k → deskIn s ≡ desk → lotIn s ≡ lot
+    → length s ≡ start + storedLength c k → rowLengthIn s ≡ rowLength c → isClassCount c ≡ true → isStationCount k ≡ true → desk < k
+    → distanceIn s ≡ rowLength c * k
+    → reading s ≡ unless (eqb (sumWords s start (wordCount c k)) 0) (readRefused CheckWord) (judged (mapAt s c k desk lot start))
 unfolding reading
-reading-left s c k lot start stations-are lot-is ends row classes count back =
+reading-left s c k desk lot start stations-are desk-is lot-is ends row classes count below back =
     let starts : length s - storedLength c k ≡ start = omega arith in
     let found = classes-row c (rowLengthIn s) classes row in
     let distance : distanceIn s ≡ rowLengthIn s * k = back ∙ ap (λ (w : ℕ). w * k) (sym row) in
@@ -177,8 +183,10 @@ reading-left s c k lot start stations-are lot-is ends row classes count back =
       le-leb trailerLength (length s) (omega arith),
       found .0,
       stations-are,
+      desk-is,
       lot-is,
       count,
+      lt-ltb desk k below,
       eq-eqb (distanceIn s) (rowLengthIn s * k) distance,
       found .1,
       le-leb (storedLength c k) (length s) (omega arith),
@@ -204,7 +212,7 @@ pub record Read (s : List ℕ) (m : Map) : Type 0 where
   pub fits : storedLength (classesIn s) (stationsIn s) ≤ length s
   pub sum : sumWords s (startIn s) (wordCount (classesIn s) (stationsIn s)) ≡ 0
   pub good : isAccepted (acceptance m) ≡ true
-  pub is : mapAt s (classesIn s) (stationsIn s) (lotIn s) (startIn s) ≡ m
+  pub is : mapAt s (classesIn s) (stationsIn s) (deskIn s) (lotIn s) (startIn s) ≡ m
 
 pub read-facts : (s : List ℕ) (m : Map) → reading s ≡ readAs m → Read s m
 unfolding reading
@@ -214,11 +222,12 @@ read-facts s m e =
     let not-short = passed (leb trailerLength (length s)) Short _ m e in
     let row-ok = passed (isRowLength (rowLengthIn s)) (Unfit Classes) _ m (not-short .1) in
     let count-ok = passed (isStationCount k) (Unfit Stations) _ m (row-ok .1) in
-    let back-ok = passed (eqb (distanceIn s) (rowLengthIn s * k)) Distance _ m (count-ok .1) in
+    let desk-ok = passed (ltb (deskIn s) k) (Unfit Desk) _ m (count-ok .1) in
+    let back-ok = passed (eqb (distanceIn s) (rowLengthIn s * k)) Distance _ m (desk-ok .1) in
     let rows-ok = passed (leb (storedLength c k) (length s)) Rows _ m (back-ok .1) in
     let sum-ok = passed (eqb (sumWords s (startIn s) (wordCount c k)) 0) CheckWord _ m (rows-ok .1) in
     let row-is = row-classes (rowLengthIn s) (row-ok .0) in
-    let judge-ok = judged-is (isAccepted (acceptance (mapAt s c k (lotIn s) (startIn s)))) _ m refl (sum-ok .1) in
+    let judge-ok = judged-is (isAccepted (acceptance (mapAt s c k (deskIn s) (lotIn s) (startIn s)))) _ m refl (sum-ok .1) in
     record {
       row = sym (row-is .0);
       few = row-is .2;

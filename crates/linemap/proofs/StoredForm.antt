@@ -25,21 +25,23 @@ length-row : (c : ℕ) (counts neighbours : List ℕ) (i : ℕ) → length (rowB
 unfolding rowBytes
 length-row c counts neighbours i = simp (length-append, length-bytes, length-counts) (omega arith)
 
-length-trailer : (w k lot : ℕ) → length (trailerBytes w k lot) ≡ trailerLength - 4
+length-trailer : (w k desk lot : ℕ) → length (trailerBytes w k desk lot) ≡ trailerLength - 4
 unfolding trailerBytes
-length-trailer w k lot = simp (length-append, length-bytes)
+length-trailer w k desk lot = simp (length-append, length-bytes)
 
-pub trailer-laid : {stations row back high whole : List ℕ} (l : List ℕ) (w k lot : ℕ)
-    → stations ≡ put l (w * k) (bytes 2 k)
-    → row ≡ put stations (w * k + 2) (bytes 2 w)
+pub trailer-laid : {stations desk-too row back high whole : List ℕ} (l : List ℕ) (w k desk lot : ℕ)
+    → stations ≡ put l (w * k) (bytes 1 k)
+    → desk-too ≡ put stations (w * k + 1) (bytes 1 desk)
+    → row ≡ put desk-too (w * k + 2) (bytes 2 w)
     → back ≡ put row (w * k + 4) (bytes 2 (w * k))
     → high ≡ put back (w * k + 6) (bytes 2 (lot / 2 ^ 32))
     → whole ≡ put high (w * k + 8) (bytes 4 (lot % 2 ^ 32))
-    → whole ≡ put l (w * k) (trailerBytes w k lot)
+    → whole ≡ put l (w * k) (trailerBytes w k desk lot)
 unfolding trailerBytes
-trailer-laid l w k lot to-stations to-row to-back to-high to-low =
+trailer-laid l w k desk lot to-stations to-desk to-row to-back to-high to-low =
     let t = w * k in
-    let two = lay l t (bytes 2 k) (bytes 2 w) (t + 2) to-stations to-row (simp length-bytes) in
+    let one = lay l t (bytes 1 k) (bytes 1 desk) (t + 1) to-stations to-desk (simp length-bytes) in
+    let two = lay l t _ (bytes 2 w) (t + 2) one to-row (simp (length-append, length-bytes)) in
     let three = lay l t _ (bytes 2 t) (t + 4) two to-back (simp (length-append, length-bytes)) in
     let four = lay l t _ (bytes 2 (lot / 2 ^ 32)) (t + 6) three to-high (simp (length-append, length-bytes)) in
     lay l t _ (bytes 4 (lot % 2 ^ 32)) (t + 8) four to-low (simp (length-append, length-bytes))
@@ -61,7 +63,7 @@ module _ (m : Map) where
 
   pub stored-laid : {rows body whole : List ℕ} {sum check : ℕ} (l : List ℕ) → lengthOf m ≤ length l
       → rows ≡ put l 0 (each (rowBytes c (m .counts) (m .neighbours)) (m .k))
-      → body ≡ put rows (rowLength c * m .k) (trailerBytes (rowLength c) (m .k) (m .lot))
+      → body ≡ put rows (rowLength c * m .k) (trailerBytes (rowLength c) (m .k) (m .desk) (m .lot))
       → sum ≡ sumWords body 0 (wordCount c (m .k) - 1)
       → check ≡ checkWord sum
       → whole ≡ put body (lengthOf m - 4) (bytes 4 check)

@@ -7,20 +7,20 @@ use Prim.Native.Nat.{ℕ, suc, _+_, _*_, _-_, _/_, _%_, _^_, _≤_, _<_}
 use native.Mathlib.Nat.{mod-eq-of-lt, mul-le-mul-right}
 use native.Mathlib.Omega.{arith}
 use lib.ListN.{length, getD, length-append}
-use borrow.Author.Tests.{eq-eqb, lt-ltb, le-leb}
+use borrow.Author.Tests.{eq-eqb}
 use Rattle.aggregate.specs.Aggregate.{rootOf, isClassCount}
 use Rattle.topology.specs.Answer.{accepted, isAccepted}
 use Rattle.topology.specs.Web.{Web}
-use Rattle.topology.proofs.Webs.{web-agree}
+use Rattle.topology.proofs.Webs.{web-agree, web-count}
 use Rattle.finite.specs.Numbers.{number, bytes}
 use Rattle.linemap.specs.Words.{sumWords}
 use Rattle.finite.specs.Below.{each}
 use Rattle.linemap.specs.Maps.{configOf, acceptance, place, countAt}
 use Rattle.linemap.specs.Stored.{rowLength, lengthOf, wordCount, countBytes, rowBytes, trailerBytes, bodyOf, storedOf, checkWord}
-use Rattle.linemap.specs.Reading.{readAs, trailerIn, stationsIn, rowLengthIn, distanceIn, lotIn, mapAt, judged, reading}
+use Rattle.linemap.specs.Reading.{readAs, trailerIn, stationsIn, deskIn, rowLengthIn, distanceIn, lotIn, mapAt, judged, reading}
 use Rattle.linemap.specs.RoundTrip.{Fits, clearedOf}
 use Rattle.linemap.specs.declared.Map.{Map}
-use Rattle.linemap.proofs.Accepted.{map-classes, map-web, map-accepted}
+use Rattle.linemap.proofs.Accepted.{map-classes, map-web, map-desk, map-accepted}
 use Rattle.linemap.proofs.Each.{each-split, column-same, column-at, grid-same}
 use Rattle.finite.proofs.Digits.{length-bytes, front-number, past-number, number-of-bytes}
 use Rattle.linemap.proofs.Words.{front-sum, past-sum, sum-small, check-small, check-zero}
@@ -51,6 +51,10 @@ module _ (m : Map) where
 
   abbrev check : ℕ
   check = checkWord (sumWords (bodyOf m) 0 (wordCount c (m .k) - 1))
+
+  -- k and the desk
+  abbrev stations : List ℕ
+  stations = bytes 1 (m .k) ++ bytes 1 (m .desk)
 
   -- the two parts of the lot
   abbrev high : List ℕ
@@ -101,33 +105,40 @@ module _ (m : Map) where
     stations-are : stationsIn whole ≡ m .k
     unfolding storedOf bodyOf trailerBytes
     stations-are =
-        field rows (bytes 2 w ++ (bytes 2 (w * m .k) ++ (high ++ (low ++ bytes 4 check)))) 2 (m .k) _
+        field rows (bytes 1 (m .desk) ++ (bytes 2 w ++ (bytes 2 (w * m .k) ++ (high ++ (low ++ bytes 4 check))))) 1 (m .k) _
         (simp append-assoc) (omega (arith, len, length-rows m (m .k))) (omega (arith, web .few-stations))
+
+    desk-is : deskIn whole ≡ m .desk
+    unfolding storedOf bodyOf trailerBytes
+    desk-is =
+        field (rows ++ bytes 1 (m .k)) (bytes 2 w ++ (bytes 2 (w * m .k) ++ (high ++ (low ++ bytes 4 check)))) 1 (m .desk) _
+        (simp append-assoc) (simp (length-append, length-bytes) (omega (arith, len, length-rows m (m .k))))
+        (omega (arith, web .few-stations, map-desk m (ap isAccepted ok)))
 
     row-is : rowLengthIn whole ≡ w
     unfolding storedOf bodyOf trailerBytes
     row-is =
-        field (rows ++ bytes 2 (m .k)) (bytes 2 (w * m .k) ++ (high ++ (low ++ bytes 4 check))) 2 w _
+        field (rows ++ stations) (bytes 2 (w * m .k) ++ (high ++ (low ++ bytes 4 check))) 2 w _
         (simp append-assoc) (simp (length-append, length-bytes) (omega (arith, len, length-rows m (m .k))))
         (omega (arith, class-count c classes))
 
     distance-is : distanceIn whole ≡ w * m .k
     unfolding storedOf bodyOf trailerBytes
     distance-is =
-        field (rows ++ (bytes 2 (m .k) ++ bytes 2 w)) (high ++ (low ++ bytes 4 check)) 2 (w * m .k) _
+        field (rows ++ (stations ++ bytes 2 w)) (high ++ (low ++ bytes 4 check)) 2 (w * m .k) _
         (simp append-assoc) (simp (length-append, length-bytes) (omega (arith, len, length-rows m (m .k))))
         (omega (arith, near, web .few-stations))
 
     high-is : number whole (trailerIn whole + 6) 2 ≡ m .lot / 2 ^ 32
     unfolding storedOf bodyOf trailerBytes
     high-is =
-        field (rows ++ (bytes 2 (m .k) ++ (bytes 2 w ++ bytes 2 (w * m .k)))) (low ++ bytes 4 check) 2 (m .lot / 2 ^ 32) _
+        field (rows ++ (stations ++ (bytes 2 w ++ bytes 2 (w * m .k)))) (low ++ bytes 4 check) 2 (m .lot / 2 ^ 32) _
         (simp append-assoc) (simp (length-append, length-bytes) (omega (arith, len, length-rows m (m .k)))) (omega arith)
 
     low-is : number whole (trailerIn whole + 8) 4 ≡ m .lot % 2 ^ 32
     unfolding storedOf bodyOf trailerBytes
     low-is =
-        field (rows ++ (bytes 2 (m .k) ++ (bytes 2 w ++ (bytes 2 (w * m .k) ++ high)))) (bytes 4 check) 4 (m .lot % 2 ^ 32) _
+        field (rows ++ (stations ++ (bytes 2 w ++ (bytes 2 (w * m .k) ++ high)))) (bytes 4 check) 4 (m .lot % 2 ^ 32) _
         (simp append-assoc) (simp (length-append, length-bytes) (omega (arith, len, length-rows m (m .k)))) (omega arith)
 
     lot-is : lotIn whole ≡ m .lot
@@ -145,11 +156,11 @@ module _ (m : Map) where
       set = bytes 8 (getD (m .neighbours) i 0)
 
       abbrev rest : List ℕ
-      rest = each-split row (m .k) i h .0 ++ (trailerBytes w (m .k) (m .lot) ++ bytes 4 check)
+      rest = each-split row (m .k) i h .0 ++ (trailerBytes w (m .k) (m .desk) (m .lot) ++ bytes 4 check)
 
       split : storedOf m ≡ each row i ++ (counts c ++ (set ++ rest))
       unfolding storedOf bodyOf rowBytes
-      split = ap (λ (l : List ℕ). l ++ trailerBytes w (m .k) (m .lot) ++ bytes 4 check) (each-split row (m .k) i h .1) ∙ simp append-assoc
+      split = ap (λ (l : List ℕ). l ++ trailerBytes w (m .k) (m .desk) (m .lot) ++ bytes 4 check) (each-split row (m .k) i h .1) ∙ simp append-assoc
 
       -- behind the first n counts
       behind : (n : ℕ) → length before + w * i + 4 * n ≡ length before + length (each row i ++ counts n)
@@ -169,9 +180,9 @@ module _ (m : Map) where
         (split i h ∙ sym (append-assoc (each row i) (counts i h c) (set i h ++ rest i h)))
         (behind i h c) (fits .neighbours i)
 
-    map-is : mapAt whole c (m .k) (m .lot) (length before) ≡ clearedOf m
+    map-is : mapAt whole c (m .k) (m .desk) (m .lot) (length before) ≡ clearedOf m
     map-is =
-        ap₂ (λ (x y : List ℕ). record { k = m .k; classes = c; lot = m .lot; counts = x; neighbours = y })
+        ap₂ (λ (x y : List ℕ). record { k = m .k; classes = c; desk = m .desk; lot = m .lot; counts = x; neighbours = y })
         (grid-same _ _ c (m .k) count-at) (column-same 64 _ _ (m .k) set-at)
 
     -- the sets below k are those of m
@@ -183,7 +194,7 @@ module _ (m : Map) where
 
     pub written-reads : reading whole ≡ readAs (clearedOf m)
     written-reads =
-        reading-left whole c (m .k) (m .lot) (length before) stations-are lot-is len row-is classes
-        (rw (lt-ltb 0 (m .k) (web .some-station), le-leb (m .k) 64 (web .few-stations))) distance-is
+        reading-left whole c (m .k) (m .desk) (m .lot) (length before) stations-are desk-is lot-is len row-is classes
+        (web-count (rootOf (configOf m)) (m .k) (m .neighbours) web) (map-desk m (ap isAccepted ok)) distance-is
         ∙ rw (eq-eqb (sumWords whole (length before) (wordCount c (m .k))) 0 sum-is)
         (ap judged map-is ∙ rw (ap isAccepted cleared-accepted))

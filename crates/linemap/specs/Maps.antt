@@ -1,4 +1,4 @@
--- A line map by value, and the rules on one that is handed over (document 01, "The line map"; document 02, request 2).
+-- A line map by value, and the rules on one that is handed over (document 01, "The line map"; document 02, requests 2 and 5).
 use mathlib.Core.Bool.{cond}
 use mathlib.Core.List.{List}
 use Prim.Native.Nat.{ℕ, _+_, _*_}
@@ -15,13 +15,13 @@ use Rattle.linemap.specs.declared.Map.{Map}
 
 -- what a net on this map is opened with
 abbrev pub configOf : Map → Config
-configOf m = record { k = m .k; classes = m .classes }
+configOf m = record { k = m .k; classes = m .classes; desk = m .desk }
 
 -- "A map handed over with c not 1 to 8 gets 2, before 3" (document 02, request 2): that number, or what comes after
 abbrev pub classesFirst : Map → List ℕ → List ℕ
 classesFirst m rest = unless (isClassCount (m .classes)) (faultNumbers Classes) rest
 
--- "a map handed over goes 3, 7 to 10" (Causes and numbers), after 2: the number with its values
+-- "a map handed over goes 3, 7 to 10" (Causes and numbers), after 2, with 19 after 3 (document 02, request 5): the number with its values
 abbrev pub acceptance : Map → List ℕ
 acceptance m = classesFirst m (verdictOf (rootOf (configOf m)) (m .k) (m .neighbours))
 

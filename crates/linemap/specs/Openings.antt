@@ -1,5 +1,5 @@
 -- Opening a net of either kind on a line map that is handed over: 2 (document 02, request 2), "3, 7 to 10" (document 01, "Causes and
--- numbers"), else the fresh net.
+-- numbers"), with 19 after 3 (document 02, request 5), else the fresh net.
 use mathlib.Core.List.{List}
 use Prim.Native.Nat.{ℕ}
 use Rattle.finite.specs.Tests.{unless}

@@ -1,15 +1,15 @@
 -- What reading gives (document 01, "The line map" and "Causes and numbers": "Reading goes 1 to 10"; document 02, request 2: c counts in a
--- row; request 4: longer lots).
+-- row; request 4: longer lots; request 5: the desk).
 use mathlib.Core.Bool.{Bool, _&&_}
 use mathlib.Core.List.{List, [], _∷_, _++_}
 use Prim.Native.Nat.{ℕ, _+_, _*_, _-_, _/_, _%_, _^_}
 use lib.ListN.{length, replicate}
-use lib.Dec.{leb, eqb}
+use lib.Dec.{leb, ltb, eqb}
 use Rattle.topology.specs.Answer.{accepted, isAccepted}
 use Rattle.finite.specs.Tests.{unless}
 use Rattle.topology.specs.Acceptance.{faultNumbers}
 use Rattle.bitset.specs.Set.{isStationCount}
-use Rattle.topology.specs.declared.Fault.the-variants.{Classes, Stations}
+use Rattle.topology.specs.declared.Fault.the-variants.{Classes, Stations, Desk}
 use Rattle.finite.specs.Numbers.{number}
 use Rattle.linemap.specs.Words.{sumWords}
 use Rattle.finite.specs.Below.{each, tabulate}
@@ -47,7 +47,7 @@ readOutcomeOf r = record { numbers = readNumbers (r .answer); map = r .map }
 
 -- the map of a refused reading: all zero
 abbrev pub emptyMap : Map
-emptyMap = record { k = 0; classes = 0; lot = 0; counts = replicate 512 0; neighbours = replicate 64 0 }
+emptyMap = record { k = 0; classes = 0; desk = 0; lot = 0; counts = replicate 512 0; neighbours = replicate 64 0 }
 
 -- a refusal hands back the empty map
 abbrev pub readRefused : ReadFault → ReadOutcome
@@ -62,8 +62,13 @@ abbrev pub trailerIn : List ℕ → ℕ
 trailerIn s = length s - trailerLength
 
 -- the trailer's fields: "k (2 bytes), row length 12 (2), distance back .. (4), lot (4)"
+-- of the first "k is the lower byte" (document 02, request 5)
 abbrev pub stationsIn : List ℕ → ℕ
-stationsIn s = number s (trailerIn s) 2
+stationsIn s = number s (trailerIn s) 1
+
+-- "The upper byte of the trailer's 2-byte field for k names the desk" (document 02, request 5)
+abbrev pub deskIn : List ℕ → ℕ
+deskIn s = number s (trailerIn s + 1) 1
 
 -- "row length 12 (2)"
 abbrev pub rowLengthIn : List ℕ → ℕ
@@ -106,23 +111,24 @@ abbrev pub countIn : List ℕ → ℕ → ℕ → ℕ
 countIn s at j = number s (at + 4 * j) 4
 
 -- the map of k rows with c counts from `start`: c counts "before its set" (document 02, request 2), "set 8"
-abbrev pub mapAt : List ℕ → ℕ → ℕ → ℕ → ℕ → Map
-mapAt s c k lot start =
+abbrev pub mapAt : List ℕ → ℕ → ℕ → ℕ → ℕ → ℕ → Map
+mapAt s c k desk lot start =
     let counts = grid (λ i. countIn s (start + rowLength c * i)) c k in
     let neighbours = column 64 (λ i. number s (start + rowLength c * i + 4 * c) 8) k in
-    record { k = k; classes = c; lot = lot; counts = counts; neighbours = neighbours }
+    record { k = k; classes = c; desk = desk; lot = lot; counts = counts; neighbours = neighbours }
 
--- 7 to 10 (2 and 3 are tested before)
+-- 7 to 10 (2, 3 and 19 are tested before)
 abbrev pub judged : Map → ReadOutcome
 judged m = unless (isAccepted (acceptance m)) (record { numbers = acceptance m; map = emptyMap }) (readAs m)
 
--- "Reading goes 1 to 10"
+-- "Reading goes 1 to 10"; 19 "after 3" (document 02, request 5)
 unfoldable pub reading : List ℕ → ReadOutcome
 reading s =
     unless (leb trailerLength (length s)) (readRefused Short)
     (unless (isRowLength (rowLengthIn s)) (readRefused (Unfit Classes))
     (unless (isStationCount (stationsIn s)) (readRefused (Unfit Stations))
+    (unless (ltb (deskIn s) (stationsIn s)) (readRefused (Unfit Desk))
     (unless (eqb (distanceIn s) (rowLengthIn s * stationsIn s)) (readRefused Distance)
     (unless (leb (storedLength (classesIn s) (stationsIn s)) (length s)) (readRefused Rows)
     (unless (eqb (sumWords s (startIn s) (wordCount (classesIn s) (stationsIn s))) 0) (readRefused CheckWord)
-    (judged (mapAt s (classesIn s) (stationsIn s) (lotIn s) (startIn s))))))))
+    (judged (mapAt s (classesIn s) (stationsIn s) (deskIn s) (lotIn s) (startIn s)))))))))

@@ -1,5 +1,6 @@
 -- Writing and reading undo each other (document 01, "The line map": "the bytes it fills are what reads back. Equal maps agree in k,
--- lot and all places below k"; document 02, request 2: "Equal maps agree in c too"). `round-trips` (proofs/RoundTrips) proves both halves.
+-- lot and all places below k"; document 02, request 2: "Equal maps agree in c too"; request 5: "Equal maps agree in the desk too").
+-- `round-trips` (proofs/RoundTrips) proves both halves.
 use mathlib.Core.Path.{_≡_}
 use mathlib.Core.List.{List, _++_}
 use Prim.Native.Nat.{ℕ, _-_, _≤_, _<_, _^_}
@@ -17,10 +18,12 @@ pub record Fits (m : Map) : Type 0 where
   pub counts : (p : ℕ) → getD (m .counts) p 0 < 2 ^ 32
   pub neighbours : (i : ℕ) → getD (m .neighbours) i 0 < 2 ^ 64
 
--- "Equal maps agree in k, lot and all places below k"; "Equal maps agree in c too" (document 02, request 2)
+-- "Equal maps agree in k, lot and all places below k"; "Equal maps agree in c too" (document 02, request 2), "in the
+-- desk too" (request 5)
 pub record Equal (m n : Map) : Type 0 where
   pub k : m .k ≡ n .k
   pub classes : m .classes ≡ n .classes
+  pub desk : m .desk ≡ n .desk
   pub lot : m .lot ≡ n .lot
   pub counts : (i j : ℕ) → i < m .k → j < m .classes → countAt m i j ≡ countAt n i j
   pub neighbours : (i : ℕ) → i < m .k → getD (m .neighbours) i 0 ≡ getD (n .neighbours) i 0
@@ -30,11 +33,11 @@ abbrev pub clearedOf : Map → Map
 clearedOf m =
     let counts = grid (countAt m) (m .classes) (m .k) in
     let neighbours = column 64 (λ i. getD (m .neighbours) i 0) (m .k) in
-    record { k = m .k; classes = m .classes; lot = m .lot; counts = counts; neighbours = neighbours }
+    record { k = m .k; classes = m .classes; desk = m .desk; lot = m .lot; counts = counts; neighbours = neighbours }
 
 -- "the bytes it fills are what reads back. Equal maps agree in k, lot and all places below k" (The line map)
 pub record RoundTrips : Type 0 where
-  -- what is written reads back, whatever stands before it: the same k, c and lot, the same places below them, zero above; "a lot of 2^48 or
+  -- what is written reads back, whatever stands before it: the same k, c, desk and lot, the same places below them, zero above; "a lot of 2^48 or
   -- more" is not written (document 02, request 4)
   pub written-reads : (m : Map) → Fits m → m .lot < 2 ^ 48 → acceptance m ≡ accepted → (before : List ℕ)
       → reading (before ++ storedOf m) ≡ readAs (clearedOf m)

@@ -1,5 +1,5 @@
 -- The stored form of a line map (document 01, "The line map", second paragraph; document 02, request 2: c counts in a row;
--- request 4: longer lots).
+-- request 4: longer lots; request 5: the desk).
 use mathlib.Core.List.{List, _++_}
 use Prim.Native.Nat.{ℕ, _+_, _*_, _-_, _/_, _%_, _^_}
 use lib.ListN.{getD}
@@ -39,14 +39,15 @@ rowBytes c counts neighbours i = countBytes c counts i ++ bytes 8 (getD neighbou
 
 -- the trailer, but for the check word: "k (2 bytes), row length 12 (2), distance back from the trailer's first byte to the first
 -- row", for rows of w bytes "the row length times k" (document 02, request 2), which "keeps the lower 2 bytes of its field. The upper 2
--- bytes become bits 32 to 47 of the lot" (request 4), "lot (4)"
-unfoldable pub trailerBytes : ℕ → ℕ → ℕ → List ℕ
-trailerBytes w k lot = bytes 2 k ++ bytes 2 w ++ bytes 2 (w * k) ++ bytes 2 (lot / 2 ^ 32) ++ bytes 4 (lot % 2 ^ 32)
+-- bytes become bits 32 to 47 of the lot" (request 4), "lot (4)". "The upper byte of the trailer's 2-byte field for k names the desk; k is the
+-- lower byte" (request 5)
+unfoldable pub trailerBytes : ℕ → ℕ → ℕ → ℕ → List ℕ
+trailerBytes w k desk lot = bytes 1 k ++ bytes 1 desk ++ bytes 2 w ++ bytes 2 (w * k) ++ bytes 2 (lot / 2 ^ 32) ++ bytes 4 (lot % 2 ^ 32)
 
 -- all but the check word
 unfoldable pub bodyOf : Map → List ℕ
 bodyOf m =
-    each (rowBytes (m .classes) (m .counts) (m .neighbours)) (m .k) ++ trailerBytes (rowLength (m .classes)) (m .k) (m .lot)
+    each (rowBytes (m .classes) (m .counts) (m .neighbours)) (m .k) ++ trailerBytes (rowLength (m .classes)) (m .k) (m .desk) (m .lot)
 
 -- what takes a sum of words to zero
 unfoldable pub checkWord : ℕ → ℕ

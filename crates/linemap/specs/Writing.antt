@@ -1,5 +1,5 @@
 -- What writing gives (document 01, "The line map" and "Causes and numbers": "a map handed over goes 3, 7 to 10, and to be written
--- then 15"; 2 comes first, document 02, request 2, and 18 before 15, request 4).
+-- then 15"; 2 comes first, document 02, request 2, 18 before 15, request 4, and 19 after 3, request 5).
 use mathlib.Core.Bool.{Bool}
 use mathlib.Core.List.{List, [], _∷_, _++_}
 use Prim.Native.Nat.{ℕ, _^_}

@@ -29,12 +29,13 @@ const LOT_LIMIT: u64 = 281474976710656;
 // The places that a station has among the counts.
 const PLACES: usize = 8;
 
-// A line map by value: the lot number, and each station's counts, one a class, and set of neighbours. The count of station i and class j
+// A line map by value: the desk, the lot number, and each station's counts, one a class, and set of neighbours. The count of station i and class j
 // stands at place 8 × i + j. Places of stations past k and of classes past the class count hold zero after reading.
 #[repr(C)]
 pub struct Map {
     pub k: u8,
     pub classes: u8,
+    pub desk: u8,
     pub lot: u64,
     pub counts: [u32; 512],
     pub neighbours: [u64; 64],
@@ -86,6 +87,7 @@ pub fn empty() -> Map
     Map {
         k: 0,
         classes: 0,
+        desk: 0,
         lot: 0,
         counts: [0u32; 512],
         neighbours: [0u64; 64],
@@ -113,10 +115,11 @@ pub fn config(m: Map) -> Config
     Config {
         k: m.k,
         classes: m.classes,
+        desk: m.desk,
     }
 }
 
-// The rules on a map handed over: 2, 3, then 7 to 10.
+// The rules on a map handed over: 2, 3, 19, then 7 to 10.
 pub fn accept(m: Map) -> Verdict
     ensures { λ r. ⌜ Acceptance.verdictNumbers r ≡ Maps.acceptance m ⌝ }
 {
@@ -147,6 +150,7 @@ pub fn read(s: &[u8]) -> MapRead
     let trailer = reading::read_trailer(s);
     let reading::TrailerRead::Fields {
         stations,
+        desk,
         row_length,
         distance,
         lot,
@@ -154,11 +158,17 @@ pub fn read(s: &[u8]) -> MapRead
     else {
         return reading::unread(ReadAnswer::Refused(ReadFault::Short));
     };
-    let answer = reading::judge_trailer(stations, row_length, distance);
+    let answer = reading::judge_trailer(stations, desk, row_length, distance);
     let ReadAnswer::Accepted = answer else {
         return reading::unread(answer);
     };
-    reading::read_rows(s, reading::classes_of(row_length), stations as u8, lot)
+    reading::read_rows(
+        s,
+        reading::classes_of(row_length),
+        stations as u8,
+        desk as u8,
+        lot,
+    )
 }
 
 // The stored form of m, from the first byte of buf.

@@ -18,6 +18,7 @@ ghost use Rattle.linemap.specs.internal.Stages;
 pub(crate) enum TrailerRead {
     Fields {
         stations: u64,
+        desk: u64,
         row_length: u64,
         distance: u64,
         lot: u64,
@@ -43,7 +44,8 @@ pub(crate) fn read_trailer(s: &[u8]) -> TrailerRead
     }
     let t = n - crate::TRAILER_LENGTH;
     TrailerRead::Fields {
-        stations: get(s, t, 2),
+        stations: get(s, t, 1),
+        desk: get(s, t + 1, 1),
         row_length: get(s, t + 2, 2),
         distance: get(s, t + 4, 2),
         lot: get(s, t + 8, 4) + 4294967296 * get(s, t + 6, 2),
@@ -65,15 +67,18 @@ pub(crate) fn classes_of(row_length: u64) -> u8
     ((row_length - 8) / 4) as u8
 }
 
-// The rules 2 to 4, on the trailer's fields.
-pub(crate) fn judge_trailer(stations: u64, row_length: u64, distance: u64) -> ReadAnswer
-    ensures { λ r. ⌜ r ≡ Stages.trailerAnswer stations «row_length» distance ⌝ }
+// The rules 2, 3, 19 and 4, on the trailer's fields.
+pub(crate) fn judge_trailer(stations: u64, desk: u64, row_length: u64, distance: u64) -> ReadAnswer
+    ensures { λ r. ⌜ r ≡ Stages.trailerAnswer stations desk «row_length» distance ⌝ }
 {
     if !is_row_length(row_length) {
         return ReadAnswer::Refused(ReadFault::Unfit(Fault::Classes));
     }
     if !bitset::is_station_count(stations) {
         return ReadAnswer::Refused(ReadFault::Unfit(Fault::Stations));
+    }
+    if stations <= desk {
+        return ReadAnswer::Refused(ReadFault::Unfit(Fault::Desk));
     }
     if distance != row_length * stations {
         return ReadAnswer::Refused(ReadFault::Distance);
@@ -136,9 +141,9 @@ fn judge(m: Map) -> MapRead
 }
 
 // The map of the k rows before the trailer: the rules 5 to 10.
-pub(crate) fn read_rows(s: &[u8], classes: u8, k: u8, lot: u64) -> MapRead
+pub(crate) fn read_rows(s: &[u8], classes: u8, k: u8, desk: u8, lot: u64) -> MapRead
     requires { ⌜ (1 ≤ classes) × (classes ≤ 8) × (0 < k) × (k ≤ 64) ⌝ }
-    ensures { λ r. ⌜ Reading.readOutcomeOf r ≡ Stages.rowsOutcome (now (s .entry)) classes k lot ⌝ }
+    ensures { λ r. ⌜ Reading.readOutcomeOf r ≡ Stages.rowsOutcome (now (s .entry)) classes k desk lot ⌝ }
 {
     let need = crate::stored_length(classes, k);
     let width = crate::row_length(classes);
@@ -162,6 +167,7 @@ pub(crate) fn read_rows(s: &[u8], classes: u8, k: u8, lot: u64) -> MapRead
     judge(Map {
         k,
         classes,
+        desk,
         lot,
         counts,
         neighbours,

@@ -51,12 +51,13 @@ fn put_rows(m: Map, buf: &mut [u8])
 }
 
 // The trailer, but for the check word.
-fn put_trailer(buf: &mut [u8], width: usize, k: usize, lot: u64)
+fn put_trailer(buf: &mut [u8], width: usize, k: usize, desk: u8, lot: u64)
     requires { ⌜ width * k + trailerLength ≤ length (now buf) ⌝ }
-    ensures { λ _. ⌜ now (buf .exit) ≡ Stages.put (now (buf .entry)) (width * k) (trailerBytes width k lot) ⌝ }
+    ensures { λ _. ⌜ now (buf .exit) ≡ Stages.put (now (buf .entry)) (width * k) (trailerBytes width k desk lot) ⌝ }
 {
     let t = width * k;
-    put(buf, t, 2, k as u64);
+    put(buf, t, 1, k as u64);
+    put(buf, t + 1, 1, desk as u64);
     put(buf, t + 2, 2, width as u64);
     put(buf, t + 4, 2, t as u64);
     put(buf, t + 6, 2, lot / 4294967296);
@@ -78,7 +79,7 @@ pub(crate) fn put_map(m: Map, buf: &mut [u8])
     let k = m.k as usize;
     let width = crate::row_length(m.classes);
     put_rows(m, buf);
-    put_trailer(buf, width, k, m.lot);
+    put_trailer(buf, width, k, m.desk, m.lot);
     let need = crate::stored_length(m.classes, m.k);
     let sum = sum_words(buf, 0, need / 4 - 1);
     put(buf, need - 4, 4, check_word(sum));

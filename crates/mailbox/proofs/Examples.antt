@@ -1,6 +1,7 @@
 -- Two stations with two classes, and the triangle of document 01 (counts 5, 7, 11; sets 6, 5, 3), which antt computes. Assumes nothing.
 use mathlib.Core.Path.{_≡_, refl}
 use mathlib.Core.Bool.{true}
+use Prim.Native.Nat.{ℕ}
 use mathlib.Core.List.{[], _∷_, _++_, flatMap}
 use lib.ListN.{replicate}
 use Rattle.finite.specs.Below.{allBelow, each, tabulate}
@@ -24,10 +25,13 @@ use Rattle.mailbox.specs.Delivery.{boxesAfter, boxesSettled, delivered, 
 use Rattle.mailbox.specs.Rules.{delivery, report, mayStep, netAfter, rules}
 
 abbrev pair : Net
-pair = freshNet (record { k = 2; classes = 2 }) ((3 ∷ 8 ∷ replicate 6 0) ++ (4 ∷ 4294967295 ∷ [])) (2 ∷ 1 ∷ [])
+pair = freshNet (record { k = 2; classes = 2; desk = 0 }) ((3 ∷ 8 ∷ replicate 6 0) ++ (4 ∷ 4294967295 ∷ [])) (2 ∷ 1 ∷ [])
+
+abbrev at : ℕ → Net
+at desk = freshNet (record { k = 3; classes = 1; desk = desk }) ((5 ∷ replicate 7 0) ++ (7 ∷ replicate 7 0) ++ (11 ∷ [])) (6 ∷ 5 ∷ 3 ∷ [])
 
 abbrev triangle : Net
-triangle = freshNet (record { k = 3; classes = 1 }) ((5 ∷ replicate 7 0) ++ (7 ∷ replicate 7 0) ++ (11 ∷ [])) (6 ∷ 5 ∷ 3 ∷ [])
+triangle = at 0
 
 first-steps : listed rules triangle ≡ step delivery 0 1 ∷ step delivery 0 2 ∷ []
 unfolding listed select candidates range listing.numbersFrom flatMap allowed inRange mayStep freshNet freshStations freshStation readingAt tabulate each boxAt withBox withMessage withAnswer withWaiting put bitIf startsPosted union minus member membersBelow size rootOf gathered cellGathered
@@ -62,3 +66,12 @@ whole-run = runOn rules triangle (0 ∷ 0 ∷ 0 ∷ 0 ∷ 0 ∷ 0 ∷ 0 ∷ 0 �
 total : (whole-run .steps ≡ 7) × (whole-run .rest ≡ true) × (station (whole-run .net) 0 .held ≡ only 23) × (drawOn rules (whole-run .net) 0 .number ≡ 14)
 unfolding runOn runMade runNet stopped drawOn picked listed quiescent isEmpty select candidates range listing.numbersFrom flatMap allowed wellFormed areWellFormed areBounded form.wellFormed allBelow inRange mayStep netAfter delivered reported boxesSettled boxesAfter freshNet freshStations freshStation readingAt tabulate each boxAt broughtAt fromWords bytes missingWord number withBox withMessage withAnswer withSums withWaiting put bitIf startsPosted union minus member membersBelow size without within rootOf valid cellBounded bounded cellGathered gathered clipped nothing cellJoined joined
 total = (refl, refl, refl, refl)
+
+-- with the desk at 1 (document 02, request 5): the first starts are its own, and its total is the same
+abbrev elsewhere : RunOutcome Net
+elsewhere = runOn rules (at 1) (0 ∷ 0 ∷ 0 ∷ 0 ∷ 0 ∷ 0 ∷ 0 ∷ [])
+
+total-elsewhere : (listed rules (at 1) ≡ step delivery 1 0 ∷ step delivery 1 2 ∷ []) × (elsewhere .steps ≡ 7) × (elsewhere .rest ≡ true)
+    × (station (elsewhere .net) 1 .held ≡ only 23) × (station (elsewhere .net) 0 .parent ≡ 1)
+unfolding runOn runMade runNet stopped drawOn picked listed quiescent isEmpty select candidates range listing.numbersFrom flatMap allowed wellFormed areWellFormed areBounded form.wellFormed allBelow inRange mayStep netAfter delivered reported boxesSettled boxesAfter freshNet freshStations freshStation readingAt tabulate each boxAt broughtAt fromWords bytes missingWord number withBox withMessage withAnswer withSums withWaiting put bitIf startsPosted union minus member membersBelow size without within rootOf valid cellBounded bounded cellGathered gathered clipped nothing cellJoined joined
+total-elsewhere = (refl, refl, refl, refl, refl)

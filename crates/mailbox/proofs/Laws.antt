@@ -1,17 +1,17 @@
 -- What a well-formed net and an allowed step say of the two stations and of the mailbox between them. Assumes nothing.
-use mathlib.Core.Path.{_≡_, ap₂}
+use mathlib.Core.Path.{_≡_}
 use mathlib.Core.List.{List}
-use mathlib.Core.Bool.{Bool, true, false, not, _&&_, _||_}
+use mathlib.Core.Bool.{Bool, true, false, not, _||_}
 use Prim.Native.Nat.{ℕ, _≤_, _<_}
 use native.Mathlib.Omega.{arith}
-use lib.Dec.{eqb, leb, ltb}
-use borrow.Author.Tests.{eq-eqb, le-leb, lt-ltb, not-true}
+use lib.Dec.{eqb}
+use borrow.Author.Tests.{eq-eqb, not-true}
 use Rattle.finite.specs.Below.{allBelow}
 use Rattle.finite.proofs.Cases.{clash, by-bool, by-sum, and-both, or-cases}
 use Rattle.finite.proofs.Below.{all-below-at}
 use Rattle.bitset.specs.Set.{member}
 use Rattle.aggregate.specs.declared.Config.{Config}
-use Rattle.aggregate.specs.Aggregate.{rootOf, valid, bounded}
+use Rattle.aggregate.specs.Aggregate.{rootOf, bounded}
 use Rattle.aggregate.specs.declared.Aggregate.{Aggregate}
 use Rattle.aggregate.proofs.Laws.{valid-k, root-below}
 use Rattle.aggregate.proofs.Words.{FitsWord, bounded-fits, joined-fits}
@@ -26,7 +26,7 @@ use Rattle.stations.proofs.Laws.{config-valid, well-formed-at}
 use Rattle.topology.specs.Answer.{accepted}
 use Rattle.linemap.specs.declared.Map.{Map}
 use Rattle.linemap.specs.Maps.{configOf, acceptance}
-use Rattle.linemap.proofs.Accepted.{map-classes, map-web}
+use Rattle.linemap.proofs.Accepted.{map-web, map-root}
 use Rattle.mail.specs.declared.Mailbox.{Mailbox}
 use Rattle.mail.specs.declared.Mailbox.the-variants.{Empty, Full}
 use Rattle.mail.specs.declared.Message.the-variants.{Start, Answer}
@@ -99,9 +99,4 @@ taken-fits t from (Full Answer) v s h g = joined-fits t (s .held) v h g
 
 -- the root of an accepted map has a place
 pub root-low : (m : Map) → acceptance m ≡ accepted → rootOf (configOf m) < 64
-unfolding valid
-root-low m e =
-    let web = map-web m (rw e) in
-    let k : (ltb 0 (m .k) && leb (m .k) 64) ≡ true = rw (lt-ltb 0 (m .k) (web .some-station), le-leb (m .k) 64 (web .few-stations)) in
-    let below = root-below (configOf m) (ap₂ (λ (a b : Bool). a && b) k (map-classes m (rw e))) in
-    omega (arith, web .few-stations)
+root-low m e = omega (arith, map-web m (rw e) .few-stations, map-root m (rw e))

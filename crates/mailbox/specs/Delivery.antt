@@ -51,7 +51,8 @@ boxesAfter boxes from to receiver =
     let emptied = withBox boxes from to Empty nothing in
     cond (eqb (receiver .state) asleep) (startsPosted emptied to (without from (receiver .unstarted))) emptied
 
--- "After any delivery, a receiver other than 0 with waits zero posts its sum as an answer to its parent and is finished"
+-- "After any delivery, a receiver other than 0 with waits zero posts its sum as an answer to its parent and is finished"; "the desk takes the
+-- place of station 0" (document 02, request 5)
 abbrev pub mustAnswer : Config → ℕ → Station → Bool
 mustAnswer t to s = not (eqb to (rootOf t)) && eqb (s .waits) 0
 

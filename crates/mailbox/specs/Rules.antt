@@ -1,5 +1,5 @@
 -- Stations with mail as a kind of net: "Delivery is kind 1, report (0 and 0) kind 2; listing, draws and runs go as above" (document 01,
--- "Stations with mail"), from the definitions of `schedule`.
+-- "Stations with mail"), from the definitions of `schedule`; for 0 read the desk (document 02, request 5).
 use mathlib.Core.Bool.{Bool, false, cond}
 use Prim.Native.Nat.{ℕ}
 use lib.Dec.{eqb}

@@ -3,10 +3,10 @@ use mathlib.Core.Path.{_≡_, refl, sym, ap, _∙_}
 use mathlib.Core.Bool.{Bool, true, false}
 use mathlib.Core.List.{List, [], _∷_}
 use Prim.Native.Nat.{ℕ, _*_, _%_}
-use lib.Dec.{leb, eqb}
+use lib.Dec.{leb, ltb, eqb}
 use lib.ListN.{length}
 use Rattle.finite.proofs.Cases.{clash, by-bool}
-use Rattle.topology.specs.declared.Fault.the-variants.{Classes, Stations}
+use Rattle.topology.specs.declared.Fault.the-variants.{Classes, Stations, Desk}
 use Rattle.topology.specs.Answer.{accepted, isAccepted}
 use Rattle.finite.specs.Tests.{unless}
 use Rattle.bitset.specs.Set.{isStationCount}
@@ -17,7 +17,7 @@ use Rattle.linemap.specs.Maps.{acceptance}
 use Rattle.linemap.specs.Words.{sumWords}
 use Rattle.linemap.specs.Stored.{trailerLength, storedLength, wordCount}
 use Rattle.linemap.specs.Reading.{ReadOutcome, readRefused, readAs, isRowLength, mapAt, judged, reading}
-use Rattle.linemap.specs.Reading.{stationsIn, rowLengthIn, classesIn, distanceIn, lotIn, startIn}
+use Rattle.linemap.specs.Reading.{stationsIn, deskIn, rowLengthIn, classesIn, distanceIn, lotIn, startIn}
 use Rattle.linemap.proofs.Answers.{read-fault-refuses}
 use Rattle.linemap.proofs.Accepted.{read-accepted}
 use Rattle.opening.specs.declared.OpenFault.the-variants.{TooLong, Odd}
@@ -40,10 +40,11 @@ reading-sound s =
     sound-unless (leb trailerLength (length s)) Short _
     (sound-unless (isRowLength (rowLengthIn s)) (Unfit Classes) _
     (sound-unless (isStationCount (stationsIn s)) (Unfit Stations) _
+    (sound-unless (ltb (deskIn s) (stationsIn s)) (Unfit Desk) _
     (sound-unless (eqb (distanceIn s) (rowLengthIn s * stationsIn s)) Distance _
     (sound-unless (leb (storedLength (classesIn s) (stationsIn s)) (length s)) Rows _
     (sound-unless (eqb (sumWords s (startIn s) (wordCount (classesIn s) (stationsIn s))) 0) CheckWord _
-    (sound-judged (mapAt s (classesIn s) (stationsIn s) (lotIn s) (startIn s))))))))
+    (sound-judged (mapAt s (classesIn s) (stationsIn s) (deskIn s) (lotIn s) (startIn s)))))))))
 
 -- an opening that refuses nothing passed each test
 passed : (b : Bool) (numbers : List ℕ) (rest o : ReadOutcome) → (b ≡ false → isAccepted numbers ≡ false) → isAccepted (o .numbers) ≡ true

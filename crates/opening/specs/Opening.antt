@@ -43,7 +43,7 @@ mostBytes = 65536
 abbrev pub bytesBefore : List ℕ → Map → ℕ
 bytesBefore s m = length s - lengthOf m
 
--- "Order: 17, 1 to 10, 16"
+-- "Order: 17, 1 to 10, 16"; reading has 19 after 3 (document 02, request 5)
 unfoldable pub inputOpening : List ℕ → ReadOutcome
 inputOpening s =
     unless (leb (length s) mostBytes) (openRefused (openFaultNumbers TooLong))

@@ -45,7 +45,7 @@ fn refuse(fault: OpenFault) -> Opening
     }
 }
 
-// The map at the end of the input and the draws before it: the rules 17, 1 to 10, 16.
+// The map at the end of the input and the draws before it: the rules 17, 1 to 10 with 19 after 3, 16.
 pub fn open(input: &[u8]) -> Opening
     ensures { λ r. ⌜ rules.openOutcomeOf r ≡ rules.inputOpening (now (input .entry)) ⌝ }
 {
@@ -89,6 +89,7 @@ fn fault_line(fault: Fault) -> Line
     match fault {
         Fault::Classes => Line::Refused(2),
         Fault::Stations => Line::Refused(3),
+        Fault::Desk => Line::Refused(19),
         Fault::Beyond(station) => Line::RefusedStation(7, station),
         Fault::Itself(station) => Line::RefusedStation(8, station),
         Fault::OneWay(station) => Line::RefusedStation(9, station),

@@ -11,7 +11,7 @@ use borrow.Author.Tests.{lt-ltb, eq-eqb, ne-eqb, eqb-true, eqb-false, not-true}
 use Rattle.finite.proofs.Cases.{by-bool, by-eq, and-both, or-left, or-right}
 use Rattle.bitset.proofs.Laws.{within-lt, within-width}
 use Rattle.aggregate.specs.Aggregate.{rootOf, bounded, clipped}
-use Rattle.aggregate.proofs.Laws.{valid-parts, nothing-bounded, root-below, root-alike, joined-alike, joined-clipped, bounded-alike, clipped-bounded}
+use Rattle.aggregate.proofs.Laws.{valid-parts, nothing-bounded, valid-of, root-below, root-desk, joined-alike, joined-clipped, bounded-alike, clipped-bounded}
 use Rattle.station.specs.declared.Station.{Station}
 use Rattle.station.specs.declared.Process.{Process}
 use Rattle.station.specs.Events.{asleep, active, maySendStart, startSent, answerTaken, startedBy, mayReport, mayAnswer, ready, ended}
@@ -55,7 +55,7 @@ eqb-comm a b = by-eq a b (λ e. eq-eqb a b e ∙ sym (eq-eqb b a (sym e))) (λ n
 module _ (net : Net) (f : wellFormed net ≡ true) (full : length (net .stations) ≡ 64) where
   -- a station by itself has the net's root, though 64 stands for k
   same-root : (i : ℕ) → rootOf (processConfig (processAt net i)) ≡ rootOf (net .config)
-  same-root i = root-alike (processConfig (processAt net i)) (net .config)
+  same-root i = root-desk (processConfig (processAt net i)) ∙ sym (root-desk (net .config))
 
   -- a station of the net is a well-formed process of its own
   process-formed : (i : ℕ) → i < net .config .k → wellFormedProcess (processAt net i) ≡ true
@@ -65,7 +65,9 @@ module _ (net : Net) (f : wellFormed net ≡ true) (full : length (net .stations
       let most = k-most net f in
       let w = facts t i (station net i) (formed-at net f i l) in
       let inside : i < 64 = omega arith in
-      rw (valid-parts t (config-valid t (net .stations) f) .1, lt-ltb i 64 inside)
+      let v = valid-parts t (config-valid t (net .stations) f) in
+      let root : rootOf (processConfig (processAt net i)) < 64 = omega (arith, same-root i, v .2) in
+      rw (valid-of (processConfig (processAt net i)) refl (v .1) root, lt-ltb i 64 inside)
       (well-formed (processConfig (processAt net i)) i (station net i)
       (record {
         state-le = w .state-le;

@@ -1,13 +1,14 @@
 -- The triangle of document 01 (counts 5, 7, 11; sets 6, 5, 3), which antt computes: its first steps, the wake of station 1, and a report that
--- comes too early. Assumes nothing.
+-- comes too early; the same with the desk elsewhere. Assumes nothing.
 use mathlib.Core.Path.{_≡_, refl}
+use Prim.Native.Nat.{ℕ}
 use mathlib.Core.List.{[], _∷_, _++_, flatMap}
 use lib.ListN.{replicate}
 use Rattle.finite.specs.Below.{allBelow, each, tabulate}
 use Rattle.bitset.specs.Set.{member, membersBelow, size, without, within}
 use Rattle.aggregate.specs.Aggregate.{rootOf, valid, nothing, cellBounded, bounded, cellGathered, gathered}
 use Rattle.aggregate.proofs.Examples.{only}
-use Rattle.refusal.specs.declared.Refusal.the-variants.{NotAllowed}
+use Rattle.refusal.specs.declared.Refusal.the-variants.{OutOfForm, OutOfRange, NotAllowed}
 use Rattle.station.specs.Form as form
 use Rattle.schedule.specs.Rules.{inRange, allowed}
 use Rattle.schedule.specs.Listing.{range, select, candidates, listed, step}
@@ -19,8 +20,11 @@ use Rattle.rendezvous.specs.Net.{Net, wellFormed, freshNet}
 use Rattle.rendezvous.specs.Figure.{wake, report, mayStep, assigned}
 use Rattle.rendezvous.specs.Rules.{rules}
 
+abbrev at : ℕ → Net
+at desk = freshNet (record { k = 3; classes = 1; desk = desk }) ((5 ∷ replicate 7 0) ++ (7 ∷ replicate 7 0) ++ (11 ∷ [])) (6 ∷ 5 ∷ 3 ∷ [])
+
 abbrev triangle : Net
-triangle = freshNet (record { k = 3; classes = 1 }) ((5 ∷ replicate 7 0) ++ (7 ∷ replicate 7 0) ++ (11 ∷ [])) (6 ∷ 5 ∷ 3 ∷ [])
+triangle = at 0
 
 first-steps : listed rules triangle ≡ step wake 0 1 ∷ step wake 0 2 ∷ []
 unfolding listed select candidates range listing.numbersFrom flatMap allowed inRange mayStep freshNet freshStations freshStation readingAt tabulate each member membersBelow size rootOf gathered cellGathered
@@ -30,7 +34,7 @@ first-steps = refl
 abbrev woken : Net
 woken =
     record {
-      config = record { k = 3; classes = 1 };
+      config = record { k = 3; classes = 1; desk = 0 };
       stations =
           (record { held = only 5; unstarted = 4; parent = 0; waits = 2; state = 1 }
           ∷ record { held = only 7; unstarted = 4; parent = 0; waits = 1; state = 1 }
@@ -46,3 +50,15 @@ first-wake = refl
 too-early : stepOn rules triangle (step report 0 0) ≡ stepRefused NotAllowed triangle
 unfolding stepOn wellFormed areWellFormed form.wellFormed allBelow inRange mayStep freshNet freshStations freshStation readingAt tabulate each member membersBelow size within rootOf valid bounded cellBounded gathered cellGathered
 too-early = refl
+
+-- with the desk at 2 (document 02, request 5) the wave starts there, and a report is at 2 and 2
+elsewhere : (listed rules (at 2) ≡ step wake 2 0 ∷ step wake 2 1 ∷ [])
+    × (stepOn rules (at 2) (step report 0 0) ≡ stepRefused OutOfRange (at 2))
+    × (stepOn rules (at 2) (step report 2 2) ≡ stepRefused NotAllowed (at 2))
+unfolding listed select candidates range listing.numbersFrom flatMap allowed stepOn wellFormed areWellFormed form.wellFormed allBelow inRange mayStep freshNet freshStations freshStation readingAt tabulate each member membersBelow size within rootOf valid bounded cellBounded gathered cellGathered
+elsewhere = (refl, refl, refl)
+
+-- "one not below k is out of form"
+no-desk : stepOn rules (at 3) (step wake 0 1) ≡ stepRefused OutOfForm (at 3)
+unfolding stepOn wellFormed areWellFormed freshNet rootOf valid
+no-desk = refl

@@ -14,7 +14,7 @@ use Rattle.rendezvous.specs.Figure.{wake, pass, answer, report, mayStep,
 
 -- station i of the net, by itself
 abbrev pub processAt : Net → ℕ → Process
-processAt net i = record { own = i; classes = net .config .classes; station = station net i }
+processAt net i = record { own = i; classes = net .config .classes; desk = net .config .desk; station = station net i }
 
 -- an event that no number refuses
 abbrev pub isDone : process.EventOutcome → Bool
@@ -48,7 +48,7 @@ pub record EventsIn (net : Net) : Type 0 where
   pub answers : (j i : ℕ) → j < net .config .k → i < net .config .k
       → let sends = process.sendAnswer (processAt net j) in
       Together net answer j i (eqb (station net j .parent) i) sends (process.takeAnswer (sends .given) (processAt net i))
-  -- 4 report: "0 and 0"
+  -- 4 report: "0 and 0", for which the desk stands (document 02, request 5)
   pub reports : Alone net report (rootOf (net .config)) (process.report (processAt net (rootOf (net .config))))
 
 -- "Each step is the sender's event and the receiver's together": in every net in form, with 64 places as all that code holds

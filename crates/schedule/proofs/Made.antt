@@ -1,6 +1,7 @@
 -- What calls make: each step made is an entry of the list of the net in which it is made, that net is well-formed, and the net left is
--- the one that the steps lead to. A list of calls makes what its calls make, one after the other. Assumes nothing.
-use mathlib.Core.Path.{_≡_, refl}
+-- the one that the steps lead to. A list of calls makes what its calls make, one after the other; a report among it is the root's, since no
+-- other is in range. Assumes nothing.
+use mathlib.Core.Path.{_≡_, refl, ap, ap₂, _∙_, subst}
 use mathlib.Core.Bool.{Bool, true, false, cond}
 use mathlib.Core.Logic.{_⊎_, inl, inr}
 use mathlib.Core.List.{List, [], _∷_, _++_, List·Memᴰ, List·Memᴰ·head, List·Memᴰ·tail}
@@ -14,16 +15,20 @@ use Rattle.refusal.specs.declared.Refusal.{Refusal}
 use Rattle.refusal.specs.declared.Refusal.the-variants.{OutOfForm, NothingAllowed}
 use Rattle.schedule.specs.declared.Step.{Step}
 use Rattle.schedule.specs.Rules.{Rules, inRange, allowed}
-use Rattle.schedule.specs.Listing.{listed, isEmpty, quiescent}
+use Rattle.schedule.specs.Listing.{listed, isEmpty, quiescent, step}
 use Rattle.schedule.specs.Outcome.{StepOutcome, stepMade, stepRefused}
 use Rattle.schedule.specs.Draws.{stepOn, picked, drawFrom, drawOn, runMade, runNet, stopped, runOn}
 use Rattle.schedule.specs.Calls.{Call, single, draw, run, callMade, callNet, callsMade, callsNet}
-use Rattle.schedule.proofs.Listing.{listed-complete, listed-allowed}
+use Rattle.schedule.proofs.Listing.{range-bounds, listed-complete, listed-allowed}
+use Rattle.schedule.proofs.Answers.{allowed-parts}
 
 getD-member : {A : Type 0} (l : List A) (n : ℕ) (d : A) → n < length l → List·Memᴰ (getD l n d) l
 getD-member [] n d h = absurd (let z : ⊥ = omega arith in z)
 getD-member (x ∷ l) zero d h = List·Memᴰ·head refl
 getD-member (x ∷ l) (suc n) d h = List·Memᴰ·tail (getD-member l n d (omega arith))
+
+step-is : (s : Step) (kind from to : ℕ) → s .kind ≡ kind → s .sender ≡ from → s .receiver ≡ to → s ≡ step kind from to
+step-is s kind from to e f g = ap₂ (λ (x y : ℕ). step x y (s .receiver)) e f ∙ ap (step kind from) g
 
 module _ {Net : Type 0} (R : Rules Net) where
   -- a step that a well-formed net lists
@@ -33,6 +38,18 @@ module _ {Net : Type 0} (R : Rules Net) where
   pub record Makes (net : Net) (made : List Step) (end : Net) : Type 0 where
     pub runs : Runs Listed (R .apply) net made
     pub ends : end ≡ reached (R .apply) net made
+
+  -- where no step moves the root, each report made is at the root and the root
+  module _ (kept : (net : Net) (s : Step) → R .root (R .apply net s) ≡ R .root net) where
+    pub reports-at-root : (net : Net) (made : List Step) (d : Step) → Runs Listed (R .apply) net made → (i : ℕ) → i < length made
+        → getD made i d .kind ≡ R .reports → getD made i d ≡ step (R .reports) (R .root net) (R .root net)
+    reports-at-root net [] d r i l e = absurd (let z : ⊥ = omega arith in z)
+    reports-at-root net (s ∷ made) d r zero l e =
+        let at = range-bounds R net s (allowed-parts R net s (listed-allowed R net s (r .0 .1)) .0) .report-at-root e in
+        step-is s (R .reports) (R .root net) (R .root net) e (at .0) (at .1)
+    reports-at-root net (s ∷ made) d r (suc i) l e =
+        subst (λ (x : ℕ). getD made i d ≡ step (R .reports) x x) (kept net s)
+        (reports-at-root (R .apply net s) made d (r .1) i (omega arith) e)
 
   nothing-made : (net : Net) → Makes net [] net
   nothing-made net = record { runs = tt; ends = refl }

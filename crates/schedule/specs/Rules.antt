@@ -20,7 +20,8 @@ pub record Rules (Net : Type 0) : Type 0 where
   -- the net after a step
   pub apply : Net → Step → Net
 
--- "Number 12: kind not 1 to 4 (mail: 1 or 2), a station number not below k .., a report not at 0 and 0" (Causes and numbers)
+-- "Number 12: kind not 1 to 4 (mail: 1 or 2), a station number not below k .., a report not at 0 and 0" (Causes and numbers); "the desk takes
+-- the place of station 0, also in a report's 0 and 0" (document 02, request 5)
 abbrev pub stepInRange : ℕ → ℕ → ℕ → ℕ → Step → Bool
 stepInRange kinds reports k root s =
     leb 1 (s .kind) && leb (s .kind) kinds && ltb (s .sender) k && ltb (s .receiver) k
@@ -31,6 +32,6 @@ module _ {Net : Type 0} (R : Rules Net) where
   unfoldable pub inRange : Net → Step → Bool
   inRange net s = stepInRange (R .kinds) (R .reports) (R .stations net) (R .root net) s
 
-  -- the steps allowed: a report is one only at 0 and 0 (Stations that meet, the table)
+  -- the steps allowed: a report is one only at the root and the root (Stations that meet, the table)
   unfoldable pub allowed : Net → Step → Bool
   allowed net s = inRange net s && R .guard net s

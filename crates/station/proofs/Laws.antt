@@ -8,7 +8,7 @@ use lib.Dec.{eqb, ltb}
 use borrow.Author.Tests.{ltb-true, lt-ltb, eq-eqb, ne-eqb}
 use Rattle.finite.proofs.Cases.{by-bool, and-both, eqb-self}
 use Rattle.aggregate.specs.declared.Aggregate.{Aggregate}
-use Rattle.aggregate.specs.Aggregate.{rootOf, isClassCount, bounded, joined}
+use Rattle.aggregate.specs.Aggregate.{rootOf, valid, bounded, joined}
 use Rattle.station.specs.declared.Station.{Station}
 use Rattle.station.specs.declared.Process.{Process}
 use Rattle.station.specs.Events.{asleep, active, woken, startedBy}
@@ -19,11 +19,11 @@ use Rattle.station.proofs.Outcomes.{decide-holds, decide-leaves}
 
 module _ (p : Process) where
   -- the three parts of the form
-  parts : wellFormedProcess p ≡ true → (isClassCount (p .classes) ≡ true) × (ltb (p .own) 64 ≡ true) × (wellFormed (processConfig p) (p .own) (p .station) ≡ true)
+  parts : wellFormedProcess p ≡ true → (valid (processConfig p) ≡ true) × (ltb (p .own) 64 ≡ true) × (wellFormed (processConfig p) (p .own) (p .station) ≡ true)
   unfolding wellFormedProcess
   parts h =
-      let last = and-both (isClassCount (p .classes) && ltb (p .own) 64) (wellFormed (processConfig p) (p .own) (p .station)) h in
-      let first = and-both (isClassCount (p .classes)) (ltb (p .own) 64) (last .0) in
+      let last = and-both (valid (processConfig p) && ltb (p .own) 64) (wellFormed (processConfig p) (p .own) (p .station)) h in
+      let first = and-both (valid (processConfig p)) (ltb (p .own) 64) (last .0) in
       (first .0, first .1, last .1)
 
   pub own-below : wellFormedProcess p ≡ true → p .own < 64
@@ -90,20 +90,20 @@ module _ (p : Process) where
   report-formed h = decide-holds (λ q. wellFormedProcess q ≡ true) _ _ _ p _ h (λ f r a. gives-formed h)
 
 -- Parts of a process, for what an event does not touch.
-abbrev pub own-and-sum : Process → ℕ × ℕ × Aggregate
-own-and-sum p = (p .own, p .classes, p .station .held)
+abbrev pub own-and-sum : Process → ℕ × ℕ × ℕ × Aggregate
+own-and-sum p = (p .own, p .classes, p .desk, p .station .held)
 
-abbrev pub but-waits : Process → ℕ × ℕ × Aggregate × ℕ × ℕ × ℕ
-but-waits p = (p .own, p .classes, p .station .held, p .station .unstarted, p .station .parent, p .station .state)
+abbrev pub but-waits : Process → ℕ × ℕ × ℕ × Aggregate × ℕ × ℕ × ℕ
+but-waits p = (p .own, p .classes, p .desk, p .station .held, p .station .unstarted, p .station .parent, p .station .state)
 
-abbrev pub but-set : Process → ℕ × ℕ × Aggregate × ℕ × ℕ × ℕ
-but-set p = (p .own, p .classes, p .station .held, p .station .parent, p .station .waits, p .station .state)
+abbrev pub but-set : Process → ℕ × ℕ × ℕ × Aggregate × ℕ × ℕ × ℕ
+but-set p = (p .own, p .classes, p .desk, p .station .held, p .station .parent, p .station .waits, p .station .state)
 
-abbrev pub but-sum-and-waits : Process → ℕ × ℕ × ℕ × ℕ × ℕ
-but-sum-and-waits p = (p .own, p .classes, p .station .unstarted, p .station .parent, p .station .state)
+abbrev pub but-sum-and-waits : Process → ℕ × ℕ × ℕ × ℕ × ℕ × ℕ
+but-sum-and-waits p = (p .own, p .classes, p .desk, p .station .unstarted, p .station .parent, p .station .state)
 
-abbrev pub but-state : Process → ℕ × ℕ × Aggregate × ℕ × ℕ × ℕ
-but-state p = (p .own, p .classes, p .station .held, p .station .unstarted, p .station .parent, p .station .waits)
+abbrev pub but-state : Process → ℕ × ℕ × ℕ × Aggregate × ℕ × ℕ × ℕ
+but-state p = (p .own, p .classes, p .desk, p .station .held, p .station .unstarted, p .station .parent, p .station .waits)
 
 -- An event changes only what its line names, accepted or refused; a refusal changes nothing.
 module _ (p : Process) where

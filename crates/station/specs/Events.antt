@@ -1,5 +1,6 @@
 -- The process equation of document 001, Definition 3.1, line by line: the guard of each line and its effect on a station. Document
--- 01, "One station", says the same in words. The nets make their steps of these.
+-- 01, "One station", says the same in words; "the desk takes the place of station 0" (document 02, request 5). The nets make their steps of
+-- these.
 use Prim.Native.Nat.{ℕ, _-_}
 use mathlib.Core.Bool.{Bool, not, cond, _&&_}
 use lib.Dec.{eqb}

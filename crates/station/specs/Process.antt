@@ -1,4 +1,5 @@
 -- The five events of a process (document 01, "One station"), with the refusals 11, 12 and 13 (Causes and numbers), which leave it.
+-- For station 0 read the desk (document 02, request 5).
 use Prim.Native.Nat.{ℕ}
 use mathlib.Core.Bool.{Bool, true, _||_}
 use mathlib.Core.List.{List, [], _∷_}
@@ -40,7 +41,7 @@ eventRefused r p = record { number = numberOf r; values = []; given = nothing; p
 
 -- the process after an event at its station
 abbrev pub after : Process → Station → Process
-after p s = record { own = p .own; classes = p .classes; station = s }
+after p s = record { own = p .own; classes = p .classes; desk = p .desk; station = s }
 
 -- an accepted event that gives nothing
 abbrev pub done : Process → EventOutcome

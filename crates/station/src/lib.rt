@@ -35,6 +35,7 @@ pub struct Station {
 pub struct Process {
     pub own: u8,
     pub classes: u8,
+    pub desk: u8,
     pub station: Station,
 }
 
@@ -213,6 +214,7 @@ impl Process {
         Config {
             k: 64,
             classes: self.classes,
+            desk: self.desk,
         }
     }
 
@@ -222,7 +224,7 @@ impl Process {
         let t = self.config();
         let own = self.own;
         let s = self.station;
-        aggregate::is_class_count(t.classes as u64) & (own < t.k) & s.is_well_formed(t, own)
+        aggregate::is_valid(t) & (own < t.k) & s.is_well_formed(t, own)
     }
 
     // The process at another station, and nothing given.
@@ -237,6 +239,7 @@ impl Process {
             process: Process {
                 own: self.own,
                 classes: self.classes,
+                desk: self.desk,
                 station: station,
             },
         }
@@ -256,6 +259,7 @@ impl Process {
             process: Process {
                 own: self.own,
                 classes: self.classes,
+                desk: self.desk,
                 station: s.ended(),
             },
         }

@@ -63,7 +63,7 @@ module _ (l m : List ℕ) where
       rw (sums-alike at (λ j u. h j (omega arith)), h 8 (omega arith), h 9 (omega arith), h 10 (omega arith))
 
 -- ---- what the net was opened with, written
-module _ (words : List ℕ) (long : length words ≡ 705) (t : Config) (k-byte : t .k < 2 ^ 8) (classes-byte : t .classes < 2 ^ 8) where
+module _ (words : List ℕ) (long : length words ≡ 705) (t : Config) (byte : (t .k < 2 ^ 8) × (t .classes < 2 ^ 8) × (t .desk < 2 ^ 8)) where
   first-word : getD (withConfig words t) 0 0 ≡ configWord (getD words 0 0) t
   unfolding withConfig
   first-word = getD-set-same words 0 _ 0 (omega arith)
@@ -72,13 +72,27 @@ module _ (words : List ℕ) (long : length words ≡ 705) (t : Config) (k-byte :
   unfolding withConfig
   later-word i j = getD-set-other words 0 (firstWord i + j) _ 0 (λ e. omega arith)
 
+  -- the parts of the first word, from the highest
+  abbrev rest : ℕ
+  rest = getD words 0 0 / 2 ^ 24
+
+  abbrev two : ℕ
+  two = rest * 2 ^ 8 + t .desk
+
+  abbrev three : ℕ
+  three = two * 2 ^ 8 + t .classes
+
   pub config-put : configIn (withConfig words t) ≡ t
   unfolding configIn
   config-put =
-      let q = getD words 0 0 / 2 ^ 16 in
-      ap₂ (λ (k c : ℕ). record { k = k; classes = c })
-      (ap (byteOf 0) first-word ∙ byte-low (q * 2 ^ 8 + t .classes) (t .k) k-byte)
-      (ap (byteOf 1) first-word ∙ byte-up (q * 2 ^ 8 + t .classes) (t .k) k-byte 0 ∙ byte-low q (t .classes) classes-byte)
+      config-of
+      (ap (byteOf 0) first-word ∙ byte-low three (t .k) (byte .0))
+      (ap (byteOf 1) first-word ∙ byte-up three (t .k) (byte .0) 0 ∙ byte-low two (t .classes) (byte .1))
+      (ap (byteOf 2) first-word ∙ byte-up three (t .k) (byte .0) 1 ∙ byte-up two (t .classes) (byte .1) 0 ∙ byte-low rest (t .desk) (byte .2))
+    where
+      config-of : {k l c d r s : ℕ} → k ≡ l → c ≡ d → r ≡ s
+          → _≡_ {A = Config} (record { k = k; classes = c; desk = r }) (record { k = l; classes = d; desk = s })
+      config-of e f g = rw (e, f, g)
 
   pub config-put-stations : stationsIn (withConfig words t) ≡ stationsIn words
   unfolding stationsIn
@@ -87,9 +101,9 @@ module _ (words : List ℕ) (long : length words ≡ 705) (t : Config) (k-byte :
   pub config-put-spare : spareIn (withConfig words t) ≡ spareIn words
   unfolding spareIn
   config-put-spare =
-      let q = getD words 0 0 / 2 ^ 16 in
       ap₂ (λ (x : ℕ) (l : List ℕ). x ∷ l)
-      (ap (λ (x : ℕ). x / 2 ^ 16) first-word ∙ bytes-up (q * 2 ^ 8 + t .classes) (t .k) k-byte 1 ∙ bytes-up q (t .classes) classes-byte 0 ∙ div-one q)
+      (ap (λ (x : ℕ). x / 2 ^ 24) first-word
+      ∙ bytes-up three (t .k) (byte .0) 2 ∙ bytes-up two (t .classes) (byte .1) 1 ∙ bytes-up rest (t .desk) (byte .2) 0 ∙ div-one rest)
       (tabulate-ext 64 _ _ (λ i l. ap (λ (x : ℕ). x / 2 ^ 24) (later-word i 10)))
 
 -- ---- a station written
@@ -249,7 +263,7 @@ module _ (words : List ℕ) (long : length words ≡ 705) (i : ℕ) (low : i < 6
   unfolding spareIn
   stored-spare =
       ap₂ (λ (x : ℕ) (l : List ℕ). x ∷ l)
-      (ap (λ (x : ℕ). x / 2 ^ 16) (station-other words (firstWord i) s 0 (λ j u e. omega arith)))
+      (ap (λ (x : ℕ). x / 2 ^ 24) (station-other words (firstWord i) s 0 (λ j u e. omega arith)))
       (tabulate-ext 64 _ _ (λ x l.
       by-eq x i
       (λ (e : x ≡ i). rw e (spare-again words (firstWord i) s (omega arith) fits))

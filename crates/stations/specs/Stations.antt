@@ -27,7 +27,7 @@ noStation = record { held = absent; unstarted = 0; parent = 0; waits = 0; state 
 abbrev pub stationAt : List Station → ℕ → Station
 stationAt stations i = getD stations i noStation
 
--- "Form (11): k 1 to 64", and every station below k is in form (Causes and numbers)
+-- "Form (11): k 1 to 64", the class count and the desk with it (`valid`), and every station below k is in form (Causes and numbers)
 unfoldable pub areWellFormed : Config → List Station → Bool
 areWellFormed t stations = valid t && allBelow (t .k) (λ i. wellFormed t i (stationAt stations i))
 
@@ -35,8 +35,8 @@ areWellFormed t stations = valid t && allBelow (t .k) (λ i. wellFormed t i (sta
 unfoldable pub readingAt : Config → List ℕ → ℕ → Reading
 readingAt t counts i = record { counts = tabulate 8 (λ j. cond (ltb j (used t)) (getD counts (8 * i + j) 0) 0) }
 
--- "Fresh: sums are the counts, sets the neighbours, parents 0, waits the set sizes, the desk active, others asleep": station i, of its
--- counts and its neighbours
+-- "Fresh: sums are the counts, sets the neighbours, parents 0, waits the set sizes, the desk active, others asleep", and in fresh nets "the
+-- desk takes the place of station 0" (document 02, request 5): station i, of its counts and its neighbours
 unfoldable pub freshStation : Config → Reading → ℕ → ℕ → Station
 freshStation t reading neighbours i =
     let state = cond (eqb i (rootOf t)) active asleep in

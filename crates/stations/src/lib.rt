@@ -97,17 +97,19 @@ pub fn config_in(words: &[u64; 705]) -> Config
     Config {
         k: (w % 256) as u8,
         classes: (w / 256 % 256) as u8,
+        desk: (w / 65536 % 256) as u8,
     }
 }
 
 // A first word with other fields.
 fn config_word(w: u64, t: Config) -> u64
     ensures word { λ r. ⌜ r ≡ Words.configWord w t ⌝ }
-    ensures fields { λ r. ⌜ (t .k < 256) × (t .classes < 256) ⌝ }
+    ensures fields { λ r. ⌜ (t .k < 256) × (t .classes < 256) × (t .desk < 256) ⌝ }
 {
     let k = wide(t.k);
     let classes = wide(t.classes);
-    (w / 65536 * 256 + classes) * 256 + k
+    let desk = wide(t.desk);
+    ((w / 16777216 * 256 + desk) * 256 + classes) * 256 + k
 }
 
 // The words of a net opened with t.
@@ -230,7 +232,7 @@ pub fn put_fresh(words: &mut [u64; 705], t: Config, counts: [u32; 512], neighbou
     }
 }
 
-// Whether k and c are in their bounds and every station below k is well-formed.
+// Whether k, c and the desk are in their bounds and every station below k is well-formed.
 pub fn are_well_formed(words: &[u64; 705]) -> bool
     ensures { λ r. ⌜ r ≡ Rules.areWellFormed (Words.configIn (now (words .entry))) (Words.stationsIn (now (words .entry))) ⌝ }
 {

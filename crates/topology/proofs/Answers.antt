@@ -10,7 +10,7 @@ use Rattle.finite.proofs.Cases.{clash}
 use Rattle.topology.specs.Answer.{isAccepted}
 use Rattle.topology.specs.Acceptance.{faultNumbers, verdictNumbers, linksNumbers}
 use Rattle.topology.specs.declared.Fault.{Fault}
-use Rattle.topology.specs.declared.Fault.the-variants.{Classes, Stations, Beyond, Itself, OneWay, Apart}
+use Rattle.topology.specs.declared.Fault.the-variants.{Classes, Stations, Desk, Beyond, Itself, OneWay, Apart}
 use Rattle.topology.specs.declared.Verdict.{Verdict}
 use Rattle.topology.specs.declared.LinksAnswer.{LinksAnswer}
 use Rattle.topology.specs.declared.Verdict.the-variants as verdict
@@ -24,11 +24,13 @@ faultFrom (n ∷ v) =
     (cond (eqb n 7) (Beyond (getD v 0 0))
     (cond (eqb n 8) (Itself (getD v 0 0))
     (cond (eqb n 9) (OneWay (getD v 0 0))
-    (cond (eqb n 10) (Apart (getD v 0 0)) Stations))))
+    (cond (eqb n 10) (Apart (getD v 0 0))
+    (cond (eqb n 19) Desk Stations)))))
 
 fault-again : (f : Fault) → faultFrom (faultNumbers f) ≡ f
 fault-again Classes = refl
 fault-again Stations = refl
+fault-again Desk = refl
 fault-again (Beyond i) = refl
 fault-again (Itself i) = refl
 fault-again (OneWay i) = refl
@@ -41,6 +43,7 @@ fault-pins f g e = sym (fault-again f) ∙ ap faultFrom e ∙ fault-again g
 pub fault-refuses : (f : Fault) → isAccepted (faultNumbers f) ≡ false
 fault-refuses Classes = refl
 fault-refuses Stations = refl
+fault-refuses Desk = refl
 fault-refuses (Beyond i) = refl
 fault-refuses (Itself i) = refl
 fault-refuses (OneWay i) = refl

@@ -35,7 +35,13 @@ triangle-links : linksOf 0 3 (6 ∷ 5 ∷ 3 ∷ []) ≡ 0 ∷ 3 ∷ []
 unfolding linksOf verdictOf firstFrom member within anyBelow near links foldTo indicator
 triangle-links = refl
 
--- no station of three is station 3: each is apart
-no-root : verdictOf 3 3 (6 ∷ 5 ∷ 3 ∷ []) ≡ 10 ∷ 0 ∷ []
+-- "19 when the desk is not below k, after 3" (document 02, request 5): no station of three is station 3, whatever the sets, and none of none is
+-- station 3
+no-root : (verdictOf 3 3 (8 ∷ 5 ∷ 3 ∷ []) ≡ 19 ∷ []) × (verdictOf 3 0 [] ≡ 3 ∷ [])
+unfolding verdictOf
+no-root = (refl, refl)
+
+-- chains lead to the root, wherever it is: station 2 has a link to nobody, so with the root at 1 it is apart, and with the root at 2 the others are
+chains-lead : (verdictOf 1 3 (2 ∷ 1 ∷ 0 ∷ []) ≡ 10 ∷ 2 ∷ []) × (verdictOf 2 3 (2 ∷ 1 ∷ 0 ∷ []) ≡ 10 ∷ 0 ∷ [])
 unfolding verdictOf firstFrom member within anyBelow near
-no-root = refl
+chains-lead = (refl, refl)

@@ -18,7 +18,7 @@ use Rattle.finite.specs.Tests.{unless}
 use Rattle.topology.specs.Acceptance.{faultNumbers, linked, namesBeyond, namesItself, namesOneSided, isApart, lowest, verdictOf}
 use Rattle.topology.specs.Web.{Web, AcceptedWebs}
 use Rattle.topology.specs.declared.Fault.{Fault}
-use Rattle.topology.specs.declared.Fault.the-variants.{Stations, Beyond, Itself, OneWay, Apart}
+use Rattle.topology.specs.declared.Fault.the-variants.{Stations, Desk, Beyond, Itself, OneWay, Apart}
 use Rattle.topology.proofs.Answers.{fault-refuses}
 use Rattle.topology.proofs.Searches.{any-of, any-none, lowest-none, none-lowest}
 use Rattle.topology.proofs.Chains.{chain-map, chain-end, near-chain, chain-near}
@@ -41,7 +41,8 @@ module _ (root k : ℕ) (sets : List ℕ) where
   unfolding verdictOf
   accepted-web e =
       let counted = passed (isStationCount k) Stations _ e in
-      let beyond = passed (leb k (lowest k (namesBeyond k sets))) (Beyond _) _ (counted .1) in
+      let desk = passed (ltb root k) Desk _ (counted .1) in
+      let beyond = passed (leb k (lowest k (namesBeyond k sets))) (Beyond _) _ (desk .1) in
       let itself = passed (leb k (lowest k (namesItself sets))) (Itself _) _ (beyond .1) in
       let one-way = passed (leb k (lowest k (namesOneSided k sets))) (OneWay _) _ (itself .1) in
       let apart = passed (leb k (lowest k (isApart root k sets))) (Apart _) _ (one-way .1) in
@@ -82,6 +83,14 @@ module _ (root k : ℕ) (sets : List ℕ) where
     pub web-within : (i : ℕ) → i < k → within k (getD sets i 0) ≡ true
     web-within i l = within-members (getD sets i 0) k (getD sets i 0) (below-power (getD sets i 0)) (λ j e. web .named-below i j l e)
 
+    -- it has stations, and not too many
+    pub web-count : isStationCount k ≡ true
+    web-count = rw (lt-ltb 0 k (web .some-station), le-leb k 64 (web .few-stations))
+
+    -- its root is one of its stations: a chain from a station ends there
+    pub web-root : root < k
+    web-root = chain-end (linked k sets) root k (λ i j e. ends i j e .1) 0 (web .some-station) (web .joined 0 (web .some-station))
+
     -- a web is a graph
     abbrev pub graph : Graph
     graph =
@@ -92,7 +101,7 @@ module _ (root k : ℕ) (sets : List ℕ) where
           within = ends;
           mutual-adj = linked-back;
           no-loop = not-linked;
-          root-in = chain-end (linked k sets) root k (λ i j e. ends i j e .1) 0 (web .some-station) (web .joined 0 (web .some-station));
+          root-in = web-root;
           joined = web .joined;
         }
 
@@ -108,8 +117,8 @@ module _ (root k : ℕ) (sets : List ℕ) where
         let apart = none-lowest k (isApart root k sets)
         (λ i l. ap not (chain-near (linked k sets) root k (λ a b e. ends a b e .1) i l (web .joined i l))) in
         rw (
-          lt-ltb 0 k (web .some-station),
-          le-leb k 64 (web .few-stations),
+          web-count,
+          lt-ltb root k web-root,
           le-leb k (lowest k (namesBeyond k sets)) beyond,
           le-leb k (lowest k (namesItself sets)) itself,
           le-leb k (lowest k (namesOneSided k sets)) one-way,

@@ -10,17 +10,19 @@ use Rattle.bitset.specs.Set.{isStationCount, member, within}
 use Rattle.topology.specs.Answer.{accepted, isAccepted}
 use Rattle.finite.specs.Tests.{unless}
 use Rattle.topology.specs.declared.Fault.{Fault}
-use Rattle.topology.specs.declared.Fault.the-variants.{Classes, Stations, Beyond, Itself, OneWay, Apart}
+use Rattle.topology.specs.declared.Fault.the-variants.{Classes, Stations, Desk, Beyond, Itself, OneWay, Apart}
 use Rattle.topology.specs.declared.Verdict.{Verdict}
 use Rattle.topology.specs.declared.LinksAnswer.{LinksAnswer}
 use Rattle.topology.specs.declared.Verdict.the-variants as verdict
 use Rattle.topology.specs.declared.LinksAnswer.the-variants as answer
 
 -- "Causes and numbers": the number of each refusal, with the station where one is returned; "A map handed over with c not 1 to 8 gets 2"
--- (document 02, request 2). `verdict-pins` and `links-pins` (proofs/Answers) say that the numbers tell the answers apart.
+-- (document 02, request 2), "19 when the desk is not below k" (request 5). `verdict-pins` and `links-pins` (proofs/Answers) say that the
+-- numbers tell the answers apart.
 abbrev pub faultNumbers : Fault → List ℕ
 faultNumbers Classes = 2 ∷ []
 faultNumbers Stations = 3 ∷ []
+faultNumbers Desk = 19 ∷ []
 faultNumbers (Beyond i) = 7 ∷ i ∷ []
 faultNumbers (Itself i) = 8 ∷ i ∷ []
 faultNumbers (OneWay i) = 9 ∷ i ∷ []
@@ -80,14 +82,15 @@ lowest k offends = firstFrom offends 0 k
 abbrev pub overAll : ℕ → (ℕ → Bool) → (ℕ → Fault) → List ℕ → List ℕ
 overAll k offends fault rest = unless (leb k (lowest k offends)) (faultNumbers (fault (lowest k offends))) rest
 
--- "Rules are tested in that order"
+-- "Rules are tested in that order"; 19 "after 3" (document 02, request 5)
 unfoldable pub verdictOf : ℕ → ℕ → List ℕ → List ℕ
 verdictOf root k sets =
     unless (isStationCount k) (faultNumbers Stations)
+    (unless (ltb root k) (faultNumbers Desk)
     (overAll k (namesBeyond k sets) Beyond
     (overAll k (namesItself sets) Itself
     (overAll k (namesOneSided k sets) OneWay
-    (overAll k (isApart root k sets) Apart accepted))))
+    (overAll k (isApart root k sets) Apart accepted)))))
 
 -- "A link is an unordered pair; m counts them": m of an accepted map
 unfoldable pub linksOf : ℕ → ℕ → List ℕ → List ℕ

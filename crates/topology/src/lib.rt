@@ -20,6 +20,8 @@ pub enum Fault {
     Classes,
     // No station, or more than 64.
     Stations,
+    // The root (01: the desk) is none of the stations.
+    Desk,
     // Its set names a station of k or more.
     Beyond(u8),
     Itself(u8),
@@ -118,7 +120,7 @@ fn reach(root: u8, k: u8, sets: &[u64; 64]) -> u64
 
 // The rules over all stations: the first that is broken, and by whom.
 fn judge(root: u8, k: u8, sets: &[u64; 64], namers: &[u64; 64]) -> Verdict
-    requires { ⌜ (Set.isStationCount k ≡ true) × Matrix.Transposed (now sets) (now namers) ⌝ }
+    requires { ⌜ (Set.isStationCount k ≡ true) × (root < k) × Matrix.Transposed (now sets) (now namers) ⌝ }
     ensures { λ r. ⌜ Acceptance.verdictNumbers r ≡ Acceptance.verdictOf root k (now (sets .entry)) ⌝ }
 {
     let beyond = find_lowest(Rule::Beyond, k, sets, namers);
@@ -147,6 +149,9 @@ pub fn accept(root: u8, k: u8, sets: &[u64; 64]) -> Verdict
 {
     if !bitset::is_station_count(k as u64) {
         return Verdict::Refused(Fault::Stations);
+    }
+    if k <= root {
+        return Verdict::Refused(Fault::Desk);
     }
     let namers = matrix::transpose(sets);
     judge(root, k, sets, &namers.rows)

@@ -1,5 +1,5 @@
 //! Document 01's "Edges" and its example of the program's output, with the lines and the largest total of document 02,
-//! request 1, and the edges of requests 1, 2 and 4, for any subject.
+//! request 1, and the edges of requests 1, 2, 4 and 5, for any subject.
 
 use crate::calls::{MapCalls, NetCalls, StationCalls};
 use crate::gen::map::all_linked;
@@ -103,7 +103,7 @@ fn held<const C: usize>(cells: [(u64, u8); C]) -> Aggregate {
 
 /// A record of station 1 that waits for nothing.
 fn active(classes: u8, held: Aggregate) -> Process {
-    Process { own: 1, classes, station: Station { held, unstarted: 0, parent: 0, waits: 0, state: ACTIVE } }
+    Process { own: 1, classes, desk: 0, station: Station { held, unstarted: 0, parent: 0, waits: 0, state: ACTIVE } }
 }
 
 /// One station: missing numbers at their bound, in a record and handed over. "A missing number above 64 is out of form;
@@ -129,6 +129,7 @@ pub fn stations(subject: &impl StationCalls) {
     classes_of_a_station(subject);
     what_is_given(subject);
     no_class_count(subject);
+    desks_of_a_station(subject);
 }
 
 fn takes(subject: &impl StationCalls, mut process: Process, answer: Aggregate, due: u8, left: Aggregate) {
@@ -188,6 +189,40 @@ fn no_class_count(subject: &impl StationCalls) {
     }
 }
 
+/// "In the rules .. the desk takes the place of station 0": it reports, may be its own parent and never answers, and every
+/// other station, 0 among them, answers; "one not below k is out of form", and "for one station 64 stands for k".
+fn desks_of_a_station(subject: &impl StationCalls) {
+    let (given, nothing) = (held([(5, 0)]), Aggregate::default());
+    let (refused, out_of_form) = (Err(Cause::NotAllowed.alone()), Err(Cause::OutOfForm.alone()));
+    for desk in [0, 1, 5, 63] {
+        for own in [0, 1, 5, 63] {
+            for parent in [2, own] {
+                let station = Station { parent, ..active(1, given).station };
+                let before = Process { own, desk, station, ..active(1, given) };
+                for (event, is_at_desk) in [(Event::Report, true), (Event::SendAnswer, false)] {
+                    let due = match (own == desk, parent == own) {
+                        (false, true) => (out_of_form, nothing),
+                        (at_desk, _) if at_desk == is_at_desk => (Ok(Some(parent)), given),
+                        _ => (refused, nothing),
+                    };
+                    let mut process = before;
+                    assert_eq!(subject.event(&mut process, event), due, "{event:?} on {before:?}");
+                    let state = if due.0.is_ok() { FINISHED } else { ACTIVE };
+                    assert_eq!(process, Process { station: Station { state, ..station }, ..before });
+                }
+            }
+        }
+    }
+    for desk in [64, 65, 255] {
+        let before = Process { desk, ..active(1, given) };
+        for event in events(200, held([(1 << 62, 65)])) {
+            let mut process = before;
+            assert_eq!(subject.event(&mut process, event), (out_of_form, nothing));
+            assert_eq!(process, before);
+        }
+    }
+}
+
 /// Maps: what is refused, and with which station.
 pub fn maps(subject: &impl MapCalls) {
     let rejected: [(&[Row<1>], Refusal); 4] = [
@@ -214,6 +249,7 @@ pub fn maps(subject: &impl MapCalls) {
     row_lengths(subject);
     lots(subject);
     sizes(subject);
+    desks(subject);
 }
 
 /// Every call on a map handed over refuses it alike.
@@ -227,7 +263,7 @@ fn refused(subject: &impl MapCalls, map: &Map, refusal: Refusal) {
 
 /// Over a map with something in every place.
 fn read(subject: &impl MapCalls, bytes: &[u8]) -> Result<Map, Refusal> {
-    let full = Map { k: 9, classes: 9, lot: 9, counts: [[9; CLASSES]; PLACES], neighbours: [9; PLACES] };
+    let full = Map { k: 9, classes: 9, desk: 9, lot: 9, counts: [[9; CLASSES]; PLACES], neighbours: [9; PLACES] };
     let mut map = full;
     let result = subject.read(bytes, &mut map);
     assert!(result.is_ok() || map == full, "a refusal leaves the map");
@@ -299,12 +335,78 @@ fn lots(subject: &impl MapCalls) {
     }
 }
 
+/// The triangle with a desk: "the upper byte of the trailer's 2-byte field for k names the desk; k is the lower byte", and
+/// "equal maps agree in the desk too". "19 when the desk is not below k, after 3": handed over before 7, read before 4.
+fn desks(subject: &impl MapCalls) {
+    for desk in [0, 1, 2] {
+        let map = Map { desk, ..triangle() };
+        let mut buffer = [0; 52];
+        assert_eq!(subject.write(&map, &mut buffer), Ok(52));
+        assert_eq!(buffer[36..40], [3, desk, 12, 0]);
+        assert_eq!(read(subject, &buffer), Ok(map));
+        assert_eq!((subject.accept(&map), subject.links(&map)), (Ok(()), Ok(3)));
+    }
+    let no_desk = Cause::Desk.alone();
+    for desk in [3, 64, 255] {
+        let map = Map { desk, ..triangle() };
+        refused(subject, &map, no_desk);
+        refused(subject, &Map { neighbours: [1; PLACES], lot: u64::MAX, ..map }, no_desk);
+        refused(subject, &Map { classes: 0, ..map }, Cause::Classes.alone());
+        assert_eq!(read(subject, &stored(&map)), Err(no_desk));
+        assert_eq!(read(subject, &stored(&map)[1..]), Err(no_desk), "before 5");
+    }
+    for (k, desk) in [(0, 0), (0, 1), (65, 64), (65, 65), (255, 255)] {
+        refused(subject, &Map { k, desk, ..triangle() }, Cause::StationCount.alone());
+    }
+    let last = Map { desk: 63, ..chain(64, 1) };
+    assert_eq!(subject.links(&last), Ok(63));
+    assert_eq!(read(subject, &stored(&last)), Ok(last));
+    refused(subject, &Map { desk: 64, ..chain(64, 1) }, no_desk);
+    chains_lead_to_the_desk(subject);
+    trailers_with_desks(subject);
+}
+
+/// Stations 0 and 1 are linked, and station 2 is alone.
+fn chains_lead_to_the_desk(subject: &impl MapCalls) {
+    for (desk, apart) in [(0, 2), (1, 2), (2, 0)] {
+        let map = Map { desk, ..map_of(42, &[([5], 2), ([7], 1), ([11], 0)]) };
+        refused(subject, &map, Cause::NoChain.with(apart));
+        assert_eq!(read(subject, &stored(&map)), Err(Cause::NoChain.with(apart)));
+    }
+}
+
+/// One station and its trailer, under every k and desk, with a distance that fits k or not: 3, then 19, then 4.
+fn trailers_with_desks(subject: &impl MapCalls) {
+    for (k, desk, distance, due) in [
+        (1, 0, 12, Ok(())),
+        (1, 0, 13, Err(4)),
+        (1, 1, 12, Err(19)),
+        (1, 1, 13, Err(19)),
+        (1, 255, 12, Err(19)),
+        (0, 0, 0, Err(3)),
+        (0, 1, 13, Err(3)),
+        (65, 0, 780, Err(3)),
+        (65, 65, 780, Err(3)),
+        (64, 63, 768, Err(5)),
+        (64, 64, 768, Err(19)),
+    ] {
+        let bytes = trailed([k, desk], 12, distance);
+        let given = read(subject, &bytes);
+        assert_eq!(given.map(|_| ()).map_err(|refusal| refusal.number), due, "k {k}, desk {desk}, distance {distance}");
+    }
+}
+
 /// A row of counts of 7 and an empty set, and a trailer; the words add to zero.
 fn one_row(row: u16, distance: u16) -> Vec<u8> {
+    trailed([1, 0], row, distance)
+}
+
+/// The same with any k and desk.
+fn trailed([k, desk]: [u8; 2], row: u16, distance: u16) -> Vec<u8> {
     let counts = if (8..100).contains(&row) { (usize::from(row) - 8) / 4 } else { 1 };
     let mut bytes: Vec<u8> = [7u32.to_le_bytes()].repeat(counts).concat();
     bytes.extend([0; 8]);
-    let words = [1 | u32::from(row) << 16, distance.into(), 42];
+    let words = [u32::from(k) | u32::from(desk) << 8 | u32::from(row) << 16, distance.into(), 42];
     let sum = words.iter().fold(7 * counts as u32, |sum, word| sum.wrapping_add(*word));
     bytes.extend(words.into_iter().chain([sum.wrapping_neg()]).flat_map(u32::to_le_bytes));
     bytes
@@ -377,6 +479,7 @@ pub fn nets<N: Sample>(subject: &impl NetCalls<N>) {
     report_is_last(subject);
     missing_at_its_bound(subject);
     classes_of_a_net(subject);
+    desks_of_a_net(subject);
 }
 
 /// "Each class reports its own total", for every c.
@@ -394,14 +497,55 @@ fn classes_of_a_net<N: Sample>(subject: &impl NetCalls<N>) {
     for classes in [0, 9, 255] {
         let mut net: N = fresh(subject, &triangle());
         net.config_mut().classes = classes;
-        let before = net.clone();
-        let out_of_form = Cause::OutOfForm.alone();
-        assert_eq!(subject.step(&mut net, Step { kind: 0, sender: 99, receiver: 99 }), Err(out_of_form));
-        assert_eq!(subject.draw(&mut net, 0), Err(out_of_form));
-        let run = subject.run(&mut net, &[0]);
-        assert_eq!((run.refusal, run.steps, run.at_rest), (Some(out_of_form), 0, false));
-        assert!(net == before, "a refusal leaves the net");
+        is_out_of_form(subject, net);
     }
+}
+
+/// Stations in a row with a desk at either end, beside it and between: fresh nets, reports, and desks that are none.
+fn desks_of_a_net<N: Sample>(subject: &impl NetCalls<N>) {
+    for (k, desk) in [(1, 0), (2, 0), (2, 1), (3, 1), (8, 5), (8, 7), (64, 0), (64, 1), (64, 63)] {
+        let map = Map { desk, ..chain(k, 1) };
+        let mut net: N = fresh(subject, &map);
+        let at_desk = |own: usize| own == usize::from(desk);
+        for (own, station) in net.stations()[..k].iter().enumerate() {
+            assert_eq!(station.state == ACTIVE, at_desk(own), "the desk is active, others are asleep");
+            assert_eq!(station.parent, desk, "parents are the desk");
+        }
+        for (sender, outbox) in net.outboxes().iter().enumerate() {
+            assert_eq!(outbox.starts, if at_desk(sender) { map.neighbours[sender] } else { 0 }, "the first starts");
+        }
+        let report = |number| Step { kind: N::REPORT, sender: number, receiver: number };
+        let due = if k == 1 { Ok(report(desk)) } else { Err(Cause::NotAllowed.alone()) };
+        assert_eq!(subject.step(&mut net.clone(), report(desk)), due, "k {k}, desk {desk}");
+        for other in (0..k as u8).filter(|&other| other != desk) {
+            assert_eq!(subject.step(&mut net, report(other)), Err(Cause::OutOfRange.alone()), "a report at {other}");
+        }
+        assert!(!subject.run(&mut net, &vec![0; 2 * k - 2]).at_rest);
+        assert_eq!(subject.draw(&mut net, 0), Ok(report(desk)), "every order ends in that desk's report");
+        assert_eq!(net.stations()[usize::from(desk)].held, map.total());
+        assert!(subject.run(&mut net, &[]).at_rest);
+    }
+    for desk in [3, 64, 255] {
+        let mut net: N = fresh(subject, &triangle());
+        net.config_mut().desk = desk;
+        is_out_of_form(subject, net);
+        let mut unopened: N = fresh(subject, &alone());
+        let before = unopened.clone();
+        let opened = subject.fresh(&Map { desk, ..triangle() }, &mut unopened);
+        assert_eq!(opened, Err(Cause::Desk.alone()));
+        assert!(unopened == before, "a refusal leaves the net");
+    }
+}
+
+/// Every call refuses the net with 11 and leaves it.
+fn is_out_of_form<N: Sample>(subject: &impl NetCalls<N>, mut net: N) {
+    let before = net.clone();
+    let out_of_form = Cause::OutOfForm.alone();
+    assert_eq!(subject.step(&mut net, Step { kind: 0, sender: 99, receiver: 99 }), Err(out_of_form));
+    assert_eq!(subject.draw(&mut net, 0), Err(out_of_form));
+    let run = subject.run(&mut net, &[0]);
+    assert_eq!((run.refusal, run.steps, run.at_rest), (Some(out_of_form), 0, false));
+    assert!(net == before, "a refusal leaves the net");
 }
 
 /// A desk that has 63 missing readings takes one more and reports; one that has 64 leaves the form with it, a single draw
@@ -461,6 +605,17 @@ pub fn orders(subject: &impl NetCalls<Meet>) {
     let by_two = [[(5, 0), (4, 0)], [(7, 0), (0, 1)], [(11, 0), (3, 0)], [(23, 0), (7, 1)]];
     check_order(subject, &two_classes(), [0; 7], at_once(by_two));
     check_order(subject, &two_classes(), chain, in_a_chain(by_two, [(18, 0), (3, 1)]));
+    let [first, second, third, all] = [[(5, 0)], [(7, 0)], [(11, 0)], [(23, 0)]];
+    let desk_at_1 = [
+        (WAKE, 1, 0, second),
+        (WAKE, 0, 2, first),
+        (PASS, 1, 2, second),
+        (PASS, 2, 1, third),
+        (ANSWER, 2, 0, third),
+        (ANSWER, 0, 1, [(16, 0)]),
+        (REPORT, 1, 1, all),
+    ];
+    check_order(subject, &Map { desk: 1, ..triangle() }, [0; 7], desk_at_1);
 }
 
 /// What the three stations hold by themselves, and the total.
@@ -500,7 +655,20 @@ fn check_order<const C: usize>(subject: &impl NetCalls<Meet>, map: &Map, draws: 
     }
 }
 
-/// The program, for the inputs that document 01 names, for heads without a reading, for several classes, and for long lots.
+/// The triangle with the desk at station 1.
+const DESK_AT_1_OUTPUT: &str = "\
+wake 1 0
+wake 0 2
+pass 1 2
+pass 2 1
+answer 2 0 11 0
+answer 0 1 16 0
+report 1 23 0
+lot 42 steps 7 links 3
+";
+
+/// The program, for the inputs that document 01 names, for heads without a reading, for several classes, for long lots, and
+/// for other desks.
 pub fn program(output: impl Fn(&[u8]) -> Vec<u8>) {
     let prints = |draws: &[u16], map: &Map, text: &str| {
         let input: Vec<u8> = draws.iter().flat_map(|draw| draw.to_le_bytes()).chain(stored(map)).collect();
@@ -514,6 +682,9 @@ pub fn program(output: impl Fn(&[u8]) -> Vec<u8>) {
     prints(&[], &Map { lot: 4_294_967_296, ..triangle() }, "lot 4294967296 steps 0 links 3\n");
     prints(&[], &Map { lot: 281_474_976_710_655, ..triangle() }, "lot 281474976710655 steps 0 links 3\n");
     prints(&[0; 3], &pair(), "wake 0 1\nanswer 1 0 4 0\nreport 0 7 0\nlot 2 steps 3 links 1\n");
+    prints(&[0; 7], &Map { desk: 1, ..triangle() }, DESK_AT_1_OUTPUT);
+    prints(&[0; 3], &Map { desk: 1, ..pair() }, "wake 1 0\nanswer 0 1 3 0\nreport 1 7 0\nlot 2 steps 3 links 1\n");
+    prints(&[0; 7], &Map { desk: 3, ..triangle() }, "refused 19\n");
     prints(&[0; 7], &lamp_failed(), LAMP_FAILED_OUTPUT);
     prints(&[0; 7], &two_classes(), TWO_CLASSES_OUTPUT);
     prints(&[0], &map_of(1, &[([NO_READING], 0)]), "report 0 0 1\nlot 1 steps 1 links 0\n");

@@ -135,7 +135,8 @@ send answer 18 0 4 0 0 2 to 0
 }
 
 /// Document 01's example of the program and its closing line; then its second order, where station 1 woke station 2, with
-/// all readings, without that of station 1, and with a second class, which counts 100, 101 and 102.
+/// all readings, without that of station 1, and with a second class, which counts 100, 101 and 102; last with a desk that
+/// hangs on station 2.
 #[cfg(feature = "meet")]
 #[test]
 fn example_desk() {
@@ -153,6 +154,7 @@ lot 42 steps 7 links 3
 run: steps 7, at rest 1, station 2 hung on 1, reported 23 0
 run: steps 7, at rest 1, station 2 hung on 1, reported 16 1
 run: steps 7, at rest 1, station 2 hung on 1, reported 16 1 303 0
+run: steps 9, at rest 1, station 2 hung on 3, reported 16 1 303 0
 ";
     assert_eq!(run("examples/c/desk.c", &[]), lots);
 }

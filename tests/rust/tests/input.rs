@@ -37,7 +37,7 @@ fn listed<T: ToString>(numbers: impl IntoIterator<Item = T>, between: &str) -> S
 }
 
 fn lines(draws: &[u16], map: &Map) -> String {
-    let mut lines = format!("draws {}\nlot {}\n", listed(draws, " "), map.lot);
+    let mut lines = format!("draws {}\nlot {}\ndesk {}\n", listed(draws, " "), map.lot, map.desk);
     for (i, &neighbours) in map.sets().iter().enumerate() {
         let (counts, names) = (listed(map.counts_of(i), ","), listed(set::members(neighbours), " "));
         lines += &format!("station {counts} {names}\n");
@@ -70,6 +70,23 @@ report 0 23 0 4 1 2 2
 lot 281474976710655 steps 7 links 3
 ";
     assert_eq!(text::output(&bytes(&in_repository("examples/three_classes.txt"))), three_classes);
+    let desk = "\
+wake 5 4
+wake 4 2
+wake 2 0
+wake 0 1
+wake 4 3
+pass 1 2
+pass 2 1
+answer 1 0 7 0
+answer 0 2 12 0
+answer 2 4 23 0
+answer 3 4 0 0
+answer 4 5 23 0
+report 5 23 0
+lot 42 steps 13 links 6
+";
+    assert_eq!(text::output(&bytes(&in_repository("examples/desk.txt"))), desk);
 }
 
 #[test]
@@ -82,6 +99,11 @@ fn no_description() {
         ("station 5,6 1,2\n", "1: a neighbour is a number from 0 to 63, not '1,2'"),
         ("station\n", "1: a station has a count"),
         ("lot 42\n", "1: no station"),
+        ("desk 256\nstation 5\n", "1: the desk is a number from 0 to 255, not '256'"),
+        ("desk\n", "1: the desk is one number, not 0"),
+        ("desk 0\ndesk 1\n", "2: a second desk"),
+        ("desk -1\n", "1: the desk is a number from 0 to 255, not '-1'"),
+        ("desks 1\n", "1: a line starts with draws, zeros, lot, desk or station, not 'desks'"),
         ("lot 281474976710656\n", "1: the lot is a number from 0 to 281474976710655, not '281474976710656'"),
     ];
     for (lines, what) in wrong {

@@ -98,7 +98,7 @@ fn steps_equal_figure_2() {
         let steps = stations
             .clone()
             .flat_map(|j| stations.clone().flat_map(move |i| (1..=REPORT).map(move |kind| (kind, j, i))));
-        for (kind, j, i) in steps.filter(|&(kind, j, i)| kind != REPORT || (j, i) == (0, 0)) {
+        for (kind, j, i) in steps.filter(|&(kind, j, i)| kind != REPORT || [j, i] == [net.config.desk; 2]) {
             let step = Step { kind, sender: j, receiver: i };
             let mut met = net.clone();
             let accepted = met.step(step).is_ok();
@@ -107,7 +107,8 @@ fn steps_equal_figure_2() {
     });
 }
 
-/// The summands of Figure 2 in document 001, as printed: i receives, j sends; none where the guard is false.
+/// The summands of Figure 2 in document 001, as printed, with the desk for station 0: i receives, j sends; none where the
+/// guard is false.
 fn figure_2(net: &Meet, step: Step) -> Option<Meet> {
     let (j, i) = (step.sender, step.receiver);
     let (sender, receiver) = (net.stations[usize::from(j)], net.stations[usize::from(i)]);
@@ -117,7 +118,7 @@ fn figure_2(net: &Meet, step: Step) -> Option<Meet> {
     let starts = set::contains(sender.unstarted, i) && sender.state == ACTIVE && i != j;
     let guard = match step.kind {
         REPORT => {
-            next.stations[0].state = FINISHED;
+            next.stations[usize::from(net.config.desk)].state = FINISHED;
             done
         }
         WAKE => {
@@ -141,7 +142,7 @@ fn figure_2(net: &Meet, step: Step) -> Option<Meet> {
             }
             next.stations[to_receiver].waits = receiver.waits.saturating_sub(1);
             next.stations[to_sender].state = FINISHED;
-            done && receiver.state == ACTIVE && sender.parent == i && j != 0 && j != i
+            done && receiver.state == ACTIVE && sender.parent == i && j != net.config.desk && j != i
         }
         _ => false,
     };

@@ -16,7 +16,7 @@ abbrev rest : tie.After-judge-trailer → ReadOutcome
 rest c =
     let s = c .before .before .before .before .before .before .args .s .now in
     let fields = c .before .before .trailer .given .0 in
-    rowsOutcome s (classesOf (fields .1 .0)) (fields .0) (fields .1 .1 .1 .0)
+    rowsOutcome s (classesOf (fields .1 .1 .0)) (fields .0) (fields .1 .0) (fields .1 .1 .1 .1 .0)
 
 -- the answer on the fields, and what it leaves
 so-far : (c : tie.After-judge-trailer)
@@ -29,8 +29,8 @@ so-far c =
 
 few : (c : tie.After-enum-told2)
     → let fields = c .before .before .before .before .trailer .given .0 in
-    (isRowLength (fields .1 .0) ≡ true) × (0 < fields .0) × (fields .0 ≤ 64)
-few c = trailer-few _ _ _ (sym (c .before .before .judge-trailer .ensures) ∙ c .enum-told2 .given .1)
+    (isRowLength (fields .1 .1 .0) ≡ true) × (0 < fields .0) × (fields .0 ≤ 64) × (fields .1 .0 < fields .0)
+few c = trailer-few _ _ _ _ (sym (c .before .before .judge-trailer .ensures) ∙ c .enum-told2 .given .1)
 
 read-trailer-requires : tie.Need-read-trailer-requires
 read-trailer-requires c κs = search needs
@@ -74,10 +74,13 @@ classes-of-requires c κs = few c .0
 cast-read-rows : tie.Need-cast-read-rows
 cast-read-rows c = omega (arith, few (c .before) .2)
 
+cast-read-rows-2 : tie.Need-cast-read-rows-2
+cast-read-rows-2 c = omega (arith, few (c .before) .2, few (c .before) .3)
+
 read-rows-requires : tie.Need-read-rows-requires
 read-rows-requires c κs =
     let left = few (c .before) in
-    let classes = row-classes (c .before .before .before .before .before .trailer .given .0 .1 .0) (left .0) in
+    let classes = row-classes (c .before .before .before .before .before .trailer .given .0 .1 .1 .0) (left .0) in
     (omega (arith, c .classes-of .ensures, classes .1), omega (arith, c .classes-of .ensures, classes .2), left .1, left .2)
 
 returns-3 : tie.Need-returns-3
@@ -86,7 +89,7 @@ returns-3 c =
     let s = judged .before .before .before .before .before .before .args .s .now in
     let fields = judged .before .before .trailer .given .0 in
     c .read-rows .ensures
-    ∙ ap (λ (n : ℕ). rowsOutcome s n (fields .0) (fields .1 .1 .1 .0)) (c .before .classes-of .ensures)
+    ∙ ap (λ (n : ℕ). rowsOutcome s n (fields .0) (fields .1 .0) (fields .1 .1 .1 .1 .0)) (c .before .classes-of .ensures)
     ∙ sym (so-far judged ∙ ap (λ (a : ReadAnswer). answered a (rest judged)) (c .before .before .enum-told2 .given .1))
 
 pub read-spec : {M : Type 1} → statement M
@@ -105,5 +108,6 @@ read-spec =
     returns-2
     classes-of-requires
     cast-read-rows
+    cast-read-rows-2
     read-rows-requires
     returns-3)

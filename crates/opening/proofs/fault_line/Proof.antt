@@ -13,6 +13,9 @@ enum-told c = search needs
 enum-told-2 : tie.Need-enum-told-2
 enum-told-2 c = search needs
 
+enum-told-3 : tie.Need-enum-told-3
+enum-told-3 c = search needs
+
 enum-known-fault : tie.Need-enum-known-fault
 enum-known-fault c = search needs
 
@@ -32,16 +35,19 @@ returns-2 : tie.Need-returns-2
 returns-2 c = search needs
 
 returns-3 : tie.Need-returns-3
-returns-3 c = sym (ap (λ (f : Fault). refusalLine (faultNumbers f)) (c .before .fault .given .1))
+returns-3 c = search needs
 
 returns-4 : tie.Need-returns-4
-returns-4 c = sym (ap (λ (f : Fault). refusalLine (faultNumbers f)) (c .before .fault2 .given .1))
+returns-4 c = sym (ap (λ (f : Fault). refusalLine (faultNumbers f)) (c .before .fault .given .1))
 
 returns-5 : tie.Need-returns-5
-returns-5 c = sym (ap (λ (f : Fault). refusalLine (faultNumbers f)) (c .before .fault3 .given .1))
+returns-5 c = sym (ap (λ (f : Fault). refusalLine (faultNumbers f)) (c .before .fault2 .given .1))
 
 returns-6 : tie.Need-returns-6
-returns-6 c = sym (ap (λ (f : Fault). refusalLine (faultNumbers f)) (c .before .fault4 .given .1))
+returns-6 c = sym (ap (λ (f : Fault). refusalLine (faultNumbers f)) (c .before .fault3 .given .1))
+
+returns-7 : tie.Need-returns-7
+returns-7 c = sym (ap (λ (f : Fault). refusalLine (faultNumbers f)) (c .before .fault4 .given .1))
 
 pub fault-line-spec : {M : Type 1} → statement M
 fault-line-spec =
@@ -49,6 +55,7 @@ fault-line-spec =
     (tie.spec
     enum-told
     enum-told-2
+    enum-told-3
     enum-known-fault
     enum-known-fault-2
     enum-known-fault-3
@@ -58,4 +65,5 @@ fault-line-spec =
     returns-3
     returns-4
     returns-5
-    returns-6)
+    returns-6
+    returns-7)

@@ -13,7 +13,7 @@ use Rattle.program.proofs.put_lot.Tie as tie
 
 map-fits : (c : tie.Start) → Fits (c .args .m)
 map-fits c =
-    let fields = c .good .1 .0 .1 .1 .1 .1 in
+    let fields = c .good .1 .0 .1 .1 .1 .1 .1 in
     record {
       counts = elements-fit w32 (c .args .m .counts) (fields .1 .0 .0) (fields .1 .0 .1 .1);
       neighbours = elements-fit w64 (c .args .m .neighbours) (fields .1 .1 .0 .0) (fields .1 .1 .0 .1 .1);

@@ -26,13 +26,12 @@ returns c =
     let a = c .before .before .before .before .before .args in
     let words = a .words .now in
     let long : length words ≡ 705 = omega arith in
-    let k-byte = c .config-word .ensures .1 .0 in
-    let classes-byte = c .config-word .ensures .1 .1 in
+    let byte = c .config-word .ensures .1 in
     let e : set words 0 (c .config-word .result) ≡ withConfig words (a .t) = ap (set words 0) (c .config-word .ensures .0) in (
       e,
       (
-        ap configIn e ∙ config-put words long (a .t) k-byte classes-byte,
-        (ap stationsIn e ∙ config-put-stations words long (a .t) k-byte classes-byte, ap spareIn e ∙ config-put-spare words long (a .t) k-byte classes-byte),
+        ap configIn e ∙ config-put words long (a .t) byte,
+        (ap stationsIn e ∙ config-put-stations words long (a .t) byte, ap spareIn e ∙ config-put-spare words long (a .t) byte),
       ),
     )
 

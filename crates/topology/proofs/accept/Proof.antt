@@ -1,7 +1,7 @@
--- `topology::accept` meets its contract: the number of stations is refused, or the rules over all of them are left. Assumes nothing.
+-- `topology::accept` meets its contract: the number of stations or the root is refused, or the rules over all stations are left. Assumes nothing.
 use mathlib.Core.Path.{_≡_, sym, _∙_}
-use mathlib.Core.Bool.{false}
-use borrow.Author.Tests.{not-true, not-false}
+use mathlib.Core.Bool.{true, false}
+use borrow.Author.Tests.{le-ltb, not-true, not-false}
 use borrow.Author.Needs.{needs}
 use Rattle.topology.specs.Acceptance.{verdictOf}
 use Rattle.bitset.specs.Set.{isStationCount}
@@ -17,16 +17,23 @@ returns c =
     let none : isStationCount (c .before .before .args .k) ≡ false = sym (c .before .is-station-count .ensures) ∙ not-true _ (c .if1 .taken) in
     rw none
 
+counted : (c : tie.Else1) → isStationCount (c .before .before .args .k) ≡ true
+counted c = sym (c .before .is-station-count .ensures) ∙ not-false _ (c .if1 .left)
+
+returns-2 : tie.Need-returns-2
+unfolding verdictOf
+returns-2 c = rw (counted (c .before), le-ltb _ _ (c .if2 .taken))
+
 transpose-requires : tie.Need-transpose-requires
 transpose-requires c κs = search needs
 
 judge-requires : tie.Need-judge-requires
 judge-requires c κs =
-    let counted = c .before .before .before in
-    (sym (counted .before .is-station-count .ensures) ∙ not-false _ (counted .if1 .left), c .before .before .transpose .ensures)
+    let below = c .before .before .before in
+    (counted (below .before), below .if2 .left, c .before .before .transpose .ensures)
 
-returns-2 : tie.Need-returns-2
-returns-2 c = search needs
+returns-3 : tie.Need-returns-3
+returns-3 c = search needs
 
 pub accept-spec : {M : Type 1} → statement M
-accept-spec = tie.close (tie.spec is-station-count-requires returns transpose-requires judge-requires returns-2)
+accept-spec = tie.close (tie.spec is-station-count-requires returns returns-2 transpose-requires judge-requires returns-3)

@@ -6,7 +6,7 @@ use mathlib.Core.List.{List}
 use Prim.Native.Nat.{ℕ, _≤_, _<_}
 use lib.ListN.{getD}
 use lib.Dec.{ltb, leb}
-use borrow.Author.Tests.{lt-leb, le-leb, leb-true, not-false}
+use borrow.Author.Tests.{lt-ltb, lt-leb, le-leb, leb-true, not-false}
 use Rattle.finite.proofs.Cases.{and-both}
 use Rattle.topology.specs.Answer.{accepted}
 use Rattle.finite.specs.Tests.{unless}
@@ -46,7 +46,7 @@ few s = let k = s .args .k in leb-true k 64 (and-both (ltb 0 k) (leb k 64) (s .p
 
 counted : (s : tie.Start) → Left s names
 unfolding verdictOf
-counted s = rw (s .pre .0)
+counted s = rw (s .pre .0, lt-ltb (s .args .root) (s .args .k) (s .pre .1))
 
 beyond : (c : tie.After-find-lowest)
     → Left (c .before) (λ root k sets. rule-at k (c .find-lowest .result) Beyond (others root k sets))
@@ -77,7 +77,7 @@ one-way c =
     let sets = s .args .sets .now in
     let namers = s .args .namers .now in
     let found : c .find-lowest3 .result ≡ lowest k (breaks rule.OneWay k sets namers) = c .find-lowest3 .ensures in
-    let same = found ∙ lowest-ext k _ _ (λ i l. one-sided-transposed k sets namers i (few s) l (s .pre .1) (inside (c .before .before .before) i l)) in
+    let same = found ∙ lowest-ext k _ _ (λ i l. one-sided-transposed k sets namers i (few s) l (s .pre .2) (inside (c .before .before .before) i l)) in
     rw same (none-itself (c .before))
 
 none-one-way : (c : tie.Else3) → Left (c .before .before .before .before .before .before) chains

@@ -8,6 +8,14 @@ use crate::model::refusal::number;
 use crate::model::MOST_CLASSES;
 use crate::rng::{for_cases, Rng};
 
+/// The desks that must be met: 0, 1, the last station, and the last of 64.
+const DESKS: [(u8, fn(&Map) -> bool); 4] = [
+    (0, |map| map.desk == 0),
+    (1, |map| map.desk == 1),
+    (2, |map| map.desk > 1 && map.desk + 1 == map.k),
+    (3, |map| map.desk == 63),
+];
+
 /// Bytes on either side of a lent buffer, which no call may touch.
 const MARGIN: usize = 8;
 
@@ -24,9 +32,11 @@ pub fn reading(subject: &impl MapCalls, count: u64) {
         if expected.is_ok() {
             seen.note("classes read", due.classes);
             seen.note("long lots read", (due.lot >> 32 > 0).into());
+            DESKS.iter().filter(|desk| desk.1(&due)).for_each(|desk| seen.note("desk read", desk.0));
         }
     });
-    seen.require("read", 0..=10);
+    seen.require("read", (0..=10).chain([19]));
+    seen.require("desk read", DESKS.map(|desk| desk.0));
     seen.require("classes read", 1..=MOST_CLASSES);
     seen.require("long lots read", 0..=1);
 }
@@ -41,8 +51,8 @@ pub fn handing_over(subject: &impl MapCalls, count: u64) {
         seen.note("accept", number(&accepted));
         write(subject, rng, &map, &mut seen);
     });
-    seen.require("accept", [0, 2, 3, 7, 8, 9, 10]);
-    seen.require("write", [0, 2, 3, 7, 8, 9, 10, 15, 18]);
+    seen.require("accept", [0, 2, 3, 7, 8, 9, 10, 19]);
+    seen.require("write", [0, 2, 3, 7, 8, 9, 10, 15, 18, 19]);
     seen.require("classes written", 1..=MOST_CLASSES);
 }
 

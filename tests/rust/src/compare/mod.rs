@@ -27,6 +27,9 @@ fn excess(gathered: &Aggregate, classes: u8) -> Option<&'static str> {
     }
 }
 
+/// Out of form by its desk, and by nothing else.
+const DESK_ALONE: &str = "desk alone beyond";
+
 /// How often each call met each number: a comparison that never met a refusal says nothing about it.
 #[derive(Default)]
 pub struct Coverage {

@@ -1,6 +1,6 @@
 //! Nets of either kind: answer, values and whole net after every call, and demand 3 on every list from a fresh net.
 
-use super::Coverage;
+use super::{Coverage, DESK_ALONE};
 use crate::calls::{Call, Model, NetCalls, Reply};
 use crate::gen::call;
 use crate::gen::map::{accepted, accepted_of, all_linked_mixed, handed_over};
@@ -17,11 +17,21 @@ use crate::rng::{for_cases, Rng};
 fn compare<N: Net>(subject: &impl NetCalls<N>, net: &mut N, call: &Call, seen: &mut Coverage) -> Reply {
     let mut due = net.clone();
     let expected = Model.call(&mut due, call);
+    if is_out_by_its_desk(net) {
+        seen.note(DESK_ALONE, expected.number());
+    }
     let reply = subject.call(net, call);
     assert_eq!(reply, expected, "{call:?}");
     assert_same(net, &due, call);
     note(call, &reply, net, seen);
     reply
+}
+
+/// Whether another desk would bring the net into form.
+fn is_out_by_its_desk<N: Net>(net: &N) -> bool {
+    let mut other = net.clone();
+    other.config_mut().desk = 0;
+    net.config().desk >= net.k() && other.is_well_formed()
 }
 
 /// Whole nets agree; the first place that does not is shown.
@@ -37,7 +47,7 @@ fn assert_same<N: Net>(given: &N, due: &N, after: &impl std::fmt::Debug) {
             assert_eq!(given, due, "words from {sender} to {receiver} after {after:?}");
         }
     }
-    assert_eq!(given.config(), due.config(), "k and c after {after:?}");
+    assert_eq!(given.config(), due.config(), "k, c and desk after {after:?}");
     assert!(given == due, "the net after {after:?}");
 }
 
@@ -91,7 +101,7 @@ pub fn freshness<N: Sample>(subject: &impl NetCalls<N>, count: u64) {
         let map = handed_over(rng);
         fresh(subject, rng, &map, &mut seen);
     });
-    seen.require("fresh", [0, 2, 3, 7, 8, 9, 10]);
+    seen.require("fresh", [0, 2, 3, 7, 8, 9, 10, 19]);
     seen.require("classes opened", 1..=MOST_CLASSES);
     seen.require("unstorable lots opened", 0..=1);
 }
@@ -114,6 +124,7 @@ pub fn hostile<N: Sample>(subject: &impl NetCalls<N>, count: u64) {
     seen.require("run", [0, 11]);
     seen.require_excesses(&[0, 11]);
     seen.require_each_class();
+    seen.require(DESK_ALONE, [11]);
     require_kinds::<N>(&seen);
 }
 
@@ -211,5 +222,5 @@ fn reported<N: Sample>(subject: &impl NetCalls<N>, rng: &mut Rng, map: &Map) -> 
     subject.fresh(map, &mut net).expect("the map is accepted");
     let draws = call::draws(rng, Record::whole(map));
     assert!(subject.run(&mut net, &draws).at_rest, "a whole wave comes to rest");
-    net.stations()[0].held
+    net.stations()[usize::from(map.desk)].held
 }

@@ -1,11 +1,12 @@
 //! All five events: result, values, whole record, and what is given.
 
-use super::Coverage;
+use super::{Coverage, DESK_ALONE};
 use crate::calls::{Model, StationCalls};
 use crate::gen::station::{event, events, extreme_events, extremes, process};
 use crate::model::aggregate::Aggregate;
 use crate::model::refusal::number;
 use crate::model::station::{Event, Process};
+use crate::model::MOST_STATIONS;
 use crate::rng::for_cases;
 
 /// One event on the subject and on the model.
@@ -16,6 +17,9 @@ fn compare(subject: &impl StationCalls, process: Process, event: Event, seen: &m
     assert_eq!((answer, left), (expected, due), "{event:?} on {process:?}");
     assert_eq!(given, given_due, "given for {event:?} on {process:?}");
     let number = number(&answer);
+    if process.desk >= MOST_STATIONS && (Process { desk: 0, ..process }).is_well_formed() {
+        seen.note(DESK_ALONE, number);
+    }
     seen.note(name(event), number);
     let looked_at = match event {
         _ if answer.is_ok() => left.station.held,
@@ -45,6 +49,7 @@ fn require_all(seen: &Coverage) {
         seen.require(name(*event), [12]);
     }
     seen.require_excesses(&[0, 11, 12]);
+    seen.require(DESK_ALONE, [11]);
 }
 
 /// Every field of the record, and every argument, at its extremes.

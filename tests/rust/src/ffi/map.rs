@@ -12,6 +12,7 @@ use crate::model::{CLASSES, PLACES};
 pub struct Map {
     k: u8,
     classes: u8,
+    desk: u8,
     lot: u64,
     counts: [[u32; CLASSES]; PLACES],
     neighbours: [u64; PLACES],
@@ -28,13 +29,13 @@ impl LaidOut for model::Map {
     type Layout = Map;
 
     fn lay_out(&self) -> Map {
-        let model::Map { k, classes, lot, counts, neighbours } = *self;
-        Map { k, classes, lot, counts, neighbours }
+        let model::Map { k, classes, desk, lot, counts, neighbours } = *self;
+        Map { k, classes, desk, lot, counts, neighbours }
     }
 
     fn take_back(layout: &Map) -> model::Map {
-        let Map { k, classes, lot, counts, neighbours } = *layout;
-        model::Map { k, classes, lot, counts, neighbours }
+        let Map { k, classes, desk, lot, counts, neighbours } = *layout;
+        model::Map { k, classes, desk, lot, counts, neighbours }
     }
 }
 

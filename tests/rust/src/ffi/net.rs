@@ -18,7 +18,8 @@ const BESIDE: u8 = 0xa5;
 struct Config {
     k: u8,
     classes: u8,
-    beside: [u8; 6],
+    desk: u8,
+    beside: [u8; 5],
 }
 
 /// A station in its place.
@@ -55,14 +56,14 @@ pub struct Line {
 }
 
 impl Line {
-    pub fn of(rules::Config { k, classes }: rules::Config, stations: &[model::Station; PLACES]) -> Line {
-        Line { config: Config { k, classes, beside: [BESIDE; 6] }, stations: stations.each_ref().map(Place::of) }
+    pub fn of(rules::Config { k, classes, desk }: rules::Config, stations: &[model::Station; PLACES]) -> Line {
+        Line { config: Config { k, classes, desk, beside: [BESIDE; 5] }, stations: stations.each_ref().map(Place::of) }
     }
 
     pub fn config(&self) -> rules::Config {
-        let Config { k, classes, beside } = self.config;
-        assert_eq!(beside, [BESIDE; 6], "what stands beside k and c was written");
-        rules::Config { k, classes }
+        let Config { k, classes, desk, beside } = self.config;
+        assert_eq!(beside, [BESIDE; 5], "what stands beside k, c and the desk was written");
+        rules::Config { k, classes, desk }
     }
 
     pub fn stations(&self) -> [model::Station; PLACES] {

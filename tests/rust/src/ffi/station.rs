@@ -36,6 +36,7 @@ struct Given {
 pub struct Process {
     own: u8,
     classes: u8,
+    desk: u8,
     station: Station,
 }
 
@@ -79,12 +80,12 @@ impl LaidOut for model::Process {
     type Layout = Process;
 
     fn lay_out(&self) -> Process {
-        Process { own: self.own, classes: self.classes, station: self.station.lay_out() }
+        Process { own: self.own, classes: self.classes, desk: self.desk, station: self.station.lay_out() }
     }
 
     fn take_back(layout: &Process) -> model::Process {
-        let Process { own, classes, station } = layout;
-        model::Process { own: *own, classes: *classes, station: LaidOut::take_back(station) }
+        let Process { own, classes, desk, station } = layout;
+        model::Process { own: *own, classes: *classes, desk: *desk, station: LaidOut::take_back(station) }
     }
 }
 

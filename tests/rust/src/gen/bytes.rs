@@ -74,22 +74,26 @@ fn any_row_length(rng: &mut Rng) -> u16 {
     }
 }
 
-/// Changes one or more of k, row length, distance and the part of the lot beside it, with a check word that fits: the rules
+/// Changes one or more of k, the desk, row length, distance and the part of the lot beside it, with a check word that fits: the rules
 /// before the check word must see it.
 fn change_trailer(rng: &mut Rng, map: &Map, bytes: &mut [u8]) {
     let start = bytes.len() - TRAILER;
-    let (mut k, mut row) = (u16::from(map.k), row_length(map.classes) as u16);
+    let (mut k, mut row) = (map.k, row_length(map.classes) as u16);
     for _ in 0..1 + rng.below(3) {
-        match rng.below(4) {
+        match rng.below(5) {
             0 => {
-                k = rng.pick(&[0, 1, 64, 65, 255, 256, 257, u16::MAX, u16::from(map.k) - 1, u16::from(map.k) + 1]);
-                put(bytes, start, &k.to_le_bytes());
+                k = rng.pick(&[0, 1, 64, 65, 255, map.k - 1, map.k + 1]);
+                put(bytes, start, &[k]);
             }
             1 => {
                 row = any_row_length(rng);
                 put(bytes, start + 2, &row.to_le_bytes());
             }
-            2 => put(bytes, start + 6, &rng.pick(&[0, 1, 1 << 8, 1 << 15, u16::MAX]).to_le_bytes()),
+            2 => {
+                let desk = rng.pick(&[0, 1, 63, 64, 255, k, k.wrapping_sub(1)]);
+                put(bytes, start + 1, &[desk]);
+            }
+            3 => put(bytes, start + 6, &rng.pick(&[0, 1, 1 << 8, 1 << 15, u16::MAX]).to_le_bytes()),
             _ => put(bytes, start + 4, &any_distance(rng, k, row).to_le_bytes()),
         }
     }
@@ -97,7 +101,7 @@ fn change_trailer(rng: &mut Rng, map: &Map, bytes: &mut [u8]) {
 }
 
 /// Often what k and the row length come to, else a little off, or by another row length.
-fn any_distance(rng: &mut Rng, k: u16, row: u16) -> u16 {
+fn any_distance(rng: &mut Rng, k: u8, row: u16) -> u16 {
     let (k, row) = (u32::from(k), u32::from(row));
     let (rows, by_another) = (row * k, u32::from(any_row_length(rng)).wrapping_mul(k));
     let off = [rows + 1, rows + row, rows.wrapping_sub(1), 12 * k, by_another, 0, u32::MAX];
@@ -109,7 +113,7 @@ fn put(bytes: &mut [u8], at: usize, field: &[u8]) {
 }
 
 /// Makes the words of the map that k and the row length claim add to zero, where all its bytes are there.
-fn seal(bytes: &mut [u8], k: u16, row: u16) {
+fn seal(bytes: &mut [u8], k: u8, row: u16) {
     let needed = usize::from(k) * usize::from(row) + TRAILER;
     let check = bytes.len() - 4;
     if needed <= bytes.len() {

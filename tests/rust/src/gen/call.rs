@@ -37,9 +37,16 @@ fn step<N: Net>(rng: &mut Rng, net: &N) -> Step {
             rng.pick(&[Step { kind: other, ..near }, Step { sender: other, ..near }, Step { receiver: other, ..near }])
         }
         7 => Step { kind: number(rng, net.k()), sender: number(rng, net.k()), receiver: number(rng, net.k()) },
-        8 => Step { kind: N::REPORT, sender: 0, receiver: 0 },
+        8 => report(rng, net),
         _ => in_range(rng, net),
     }
+}
+
+/// A report at the desk, at station 0, or half at either.
+fn report<N: Net>(rng: &mut Rng, net: &N) -> Step {
+    let desk = net.config().desk;
+    let [sender, receiver] = rng.pick(&[[desk; 2], [desk; 2], [0; 2], [0, desk], [desk, 0]]);
+    Step { kind: N::REPORT, sender, receiver }
 }
 
 fn in_range<N: Net>(rng: &mut Rng, net: &N) -> Step {

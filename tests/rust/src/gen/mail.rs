@@ -35,7 +35,7 @@ fn answer(outbox: &Outbox, receiver: u8) -> Option<Aggregate> {
 }
 
 /// Makes the answers fit that wait for other stations below k; the stray words stay.
-pub fn bring_into_form(rng: &mut Rng, outbox: &mut Outbox, sender: u8, Config { k, classes }: Config) {
+pub fn bring_into_form(rng: &mut Rng, outbox: &mut Outbox, sender: u8, Config { k, classes, .. }: Config) {
     for receiver in (0..k).filter(|&receiver| receiver != sender) {
         if answer(outbox, receiver).is_some_and(|gathered| !gathered.is_bounded(classes)) {
             outbox.put(receiver, &aggregate::in_form(rng, classes));
@@ -52,7 +52,7 @@ pub fn spoil(rng: &mut Rng, outbox: &mut Outbox, receiver: u8, classes: u8) {
 }
 
 /// Anything in the places of boxes that do not exist, in the words beside no answer, and past c.
-pub fn litter(rng: &mut Rng, outbox: &mut Outbox, sender: u8, Config { k, classes }: Config) {
+pub fn litter(rng: &mut Rng, outbox: &mut Outbox, sender: u8, Config { k, classes, .. }: Config) {
     let sparsity = rng.pick(&SPARSITIES);
     let (starts, answers) = (bits(rng, sparsity), bits(rng, sparsity));
     for receiver in 0..PLACES as u8 {

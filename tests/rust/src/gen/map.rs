@@ -1,4 +1,5 @@
-//! Maps: accepted ones of every shape, size and class count, and ones that break the rules 2, 3, 7 to 10.
+//! Maps: accepted ones of every shape, size and class count, and ones that break the rules 2, 3, 19, 7 to 10;
+//! the desk is any station, the first, the second and the last often.
 
 use super::aggregate::{class_count, NO_CLASS_COUNTS};
 use crate::model::aggregate::{in_use, NO_READING};
@@ -18,13 +19,27 @@ pub const STORED_LOTS: [u64; 4] = [0, (1 << 32) - 1, 1 << 32, LOT_LIMIT - 1];
 /// Lots that no stored map has.
 pub const LONG_LOTS: [u64; 4] = [LOT_LIMIT, LOT_LIMIT + 42, 1 << 63, u64::MAX];
 
+/// A desk: 0, 1 and k − 1 often.
+pub fn desk(rng: &mut Rng, k: u8) -> u8 {
+    let any = rng.station(k);
+    rng.pick(&[0, 1 % k, k - 1, any])
+}
+
+/// A number that is no desk of k stations.
+pub fn no_desk(rng: &mut Rng, k: u8) -> u8 {
+    rng.pick(&[k, MOST_STATIONS, 255])
+}
+
 /// Links between the places of a shape, before the stations are dealt out.
 type Links = Vec<(u8, u8)>;
 
-/// A number of stations: mostly few, so that whole waves stay short, and any of 1 to 64.
+/// A number of stations: mostly few, so that whole waves stay short, any of 1 to 64, and now and then the most.
 pub fn station_count(rng: &mut Rng) -> u8 {
-    let most = if rng.chance(75) { 8 } else { MOST_STATIONS };
-    1 + rng.station(most)
+    match rng.below(20) {
+        0..=14 => 1 + rng.station(8),
+        15..=18 => 1 + rng.station(MOST_STATIONS),
+        _ => MOST_STATIONS,
+    }
 }
 
 /// An accepted map, zero past k and past c.
@@ -34,7 +49,7 @@ pub fn accepted(rng: &mut Rng) -> Map {
 }
 
 pub fn accepted_of(rng: &mut Rng, k: u8, classes: u8) -> Map {
-    let mut map = Map::empty(k, classes, stored_lot(rng));
+    let mut map = Map { desk: desk(rng, k), ..Map::empty(k, classes, stored_lot(rng)) };
     let links = shape(rng, k);
     let station_at = permutation(rng, k);
     for (a, b) in links {
@@ -64,9 +79,9 @@ pub fn all_linked(counts: &[u32]) -> Map {
     map
 }
 
-/// The same with the largest count or no reading at each: the longest lines come of it.
+/// The same with any desk, and the largest count or no reading at each: the longest lines come of it.
 pub fn all_linked_mixed(rng: &mut Rng, classes: u8) -> Map {
-    let mut map = all_linked(&vec![LARGEST_COUNT; classes.into()]);
+    let mut map = Map { desk: desk(rng, MOST_STATIONS), ..all_linked(&vec![LARGEST_COUNT; classes.into()]) };
     for count in map.counts.iter_mut().flat_map(|counts| &mut counts[in_use(classes)]) {
         *count = rng.pick(&[LARGEST_COUNT, LARGEST_COUNT, NO_READING]);
     }
@@ -109,7 +124,7 @@ fn web(rng: &mut Rng, k: u8) -> Links {
     links
 }
 
-/// Deals the stations out, so that station 0 may stand anywhere in a shape.
+/// Deals the stations out, so that the desk may stand anywhere in a shape.
 fn permutation(rng: &mut Rng, k: u8) -> Vec<u8> {
     let mut places: Vec<u8> = (0..k).collect();
     for last in (1..places.len()).rev() {
@@ -160,8 +175,11 @@ pub fn handed_over(rng: &mut Rng) -> Map {
     if rng.chance(25) {
         map.lot = rng.pick(&LONG_LOTS);
     }
-    // of bad counts, often both
+    // of bad numbers, often two
     let bad = rng.below(100);
+    if (6..20).contains(&bad) {
+        map.desk = no_desk(rng, map.k);
+    }
     if bad < 8 {
         map.k = rng.pick(&NO_STATION_COUNTS);
     }

@@ -60,7 +60,7 @@ impl Sample for Mail {
     }
 
     fn spoil_message(&mut self, rng: &mut Rng) -> bool {
-        let Config { k, classes } = self.config;
+        let Config { k, classes, .. } = self.config;
         if k < 2 {
             return false;
         }
@@ -72,7 +72,7 @@ impl Sample for Mail {
 }
 
 /// Past k, and past c in the places below.
-fn litter_stations(rng: &mut Rng, Config { k, classes }: Config, stations: &mut [Station; PLACES]) {
+fn litter_stations(rng: &mut Rng, Config { k, classes, .. }: Config, stations: &mut [Station; PLACES]) {
     let (below, past) = stations.split_at_mut(k.into());
     below.iter_mut().for_each(|station| aggregate::litter(rng, &mut station.held, classes));
     past.iter_mut().for_each(|place| *place = station::any(rng));
@@ -101,7 +101,7 @@ pub fn junk<N: Sample>(rng: &mut Rng) -> N {
     let mut net: N = in_form(rng);
     net.config_mut().k = 0;
     net.litter(rng);
-    *net.config_mut() = Config { k: rng.byte(), classes: rng.byte() };
+    *net.config_mut() = Config { k: rng.byte(), classes: rng.byte(), desk: rng.byte() };
     net
 }
 
@@ -116,7 +116,8 @@ fn reachable<N: Sample>(rng: &mut Rng) -> N {
 }
 
 fn in_form<N: Sample>(rng: &mut Rng) -> N {
-    let config = Config { k: map::station_count(rng), classes: aggregate::class_count(rng) };
+    let k = map::station_count(rng);
+    let config = Config { k, classes: aggregate::class_count(rng), desk: map::desk(rng, k) };
     let mut stations = [Station::default(); PLACES];
     for own in 0..config.k {
         stations[usize::from(own)] = station::in_form(rng, own, config);
@@ -139,7 +140,7 @@ fn nudge<N: Sample>(rng: &mut Rng, net: &mut N) {
 
 /// Sums or missing numbers that an answer takes over their bound, often in one class alone.
 fn near_bound<N: Sample>(rng: &mut Rng, net: &mut N) {
-    let (Config { k, classes }, bound) = (net.config(), rng.pick(&BOUNDS));
+    let (Config { k, classes, .. }, bound) = (net.config(), rng.pick(&BOUNDS));
     let class = rng.chance(70).then(|| aggregate::class(rng, classes));
     for station in &mut net.stations_mut()[..k.into()] {
         if rng.chance(70) {
@@ -148,14 +149,16 @@ fn near_bound<N: Sample>(rng: &mut Rng, net: &mut N) {
     }
 }
 
-/// Takes one thing out of form: a field of a station, a message, k or c.
+/// Takes one thing out of form: a field of a station, a message, k, c or the desk.
 fn spoil<N: Sample>(rng: &mut Rng, net: &mut N) {
-    let (config, choice) = (net.config(), rng.below(12));
+    let (config, choice) = (net.config(), rng.below(13));
     if choice == 0 {
         net.config_mut().k = rng.pick(&NO_STATION_COUNTS);
-    } else if choice < 3 {
+    } else if choice == 1 {
+        net.config_mut().desk = map::no_desk(rng, config.k);
+    } else if choice < 4 {
         net.config_mut().classes = rng.pick(&NO_CLASS_COUNTS);
-    } else if choice > 6 || !net.spoil_message(rng) {
+    } else if choice > 7 || !net.spoil_message(rng) {
         let (own, station) = station_of(rng, net);
         station::spoil(rng, station, own, config);
     }

@@ -1,16 +1,18 @@
 //! Station records: in form, out of form in one field, and every field at its extremes.
 
 use super::aggregate::{self, NO_CLASS_COUNTS};
+use super::map::{desk, no_desk};
 use crate::model::aggregate::{in_use, is_class_count, Aggregate, Cell, SUM_LIMIT};
 use crate::model::net::Config;
 use crate::model::station::{Event, Process, Station, FINISHED};
-use crate::model::{set, CLASSES, MOST_STATIONS, ROOT};
+use crate::model::{set, CLASSES, MOST_STATIONS};
 use crate::rng::Rng;
 
 /// Station numbers on both sides of their bound.
 const NUMBERS: [u8; 7] = [0, 1, 2, 63, 64, 65, 255];
 
-const OWN: [u8; 5] = [0, 1, 63, 64, 255];
+/// A record's own number and its desk: the desk's own record and others', then numbers and desks that are none.
+const OWN: [(u8, u8); 9] = [(0, 0), (1, 0), (0, 1), (1, 1), (63, 63), (64, 0), (255, 63), (1, 64), (0, 255)];
 
 /// A class count, and the class whose numbers are at their extremes: the only one, the first or the last of several, or
 /// one past c; then numbers that are no class count.
@@ -22,11 +24,11 @@ const WAITS: [u8; 5] = [0, 1, 64, 65, 255];
 const STATES: [u8; 5] = [0, 1, 2, 3, 255];
 
 /// A station in form at place `own` of `k`, seldom one that a wave reaches.
-pub fn in_form(rng: &mut Rng, own: u8, Config { k, classes }: Config) -> Station {
+pub fn in_form(rng: &mut Rng, own: u8, Config { k, classes, desk }: Config) -> Station {
     Station {
         held: aggregate::in_form(rng, classes),
         unstarted: set_in_form(rng, own, k),
-        parent: parent_in_form(rng, own, k),
+        parent: parent_in_form(rng, own, k, desk),
         waits: waits_in_form(rng),
         state: rng.pick(&[0, 1, 1, 1, 2]),
     }
@@ -44,10 +46,10 @@ fn set_in_form(rng: &mut Rng, own: u8, k: u8) -> u64 {
     set::without(drawn & below_k, own)
 }
 
-fn parent_in_form(rng: &mut Rng, own: u8, k: u8) -> u8 {
+fn parent_in_form(rng: &mut Rng, own: u8, k: u8, desk: u8) -> u8 {
     let parent = rng.station(k);
     if parent == own {
-        ROOT
+        desk
     } else {
         parent
     }
@@ -76,10 +78,10 @@ pub fn nudge(rng: &mut Rng, station: &mut Station, own: u8, config: Config) {
 }
 
 /// Takes one field out of form; of what is held, one class.
-pub fn spoil(rng: &mut Rng, station: &mut Station, own: u8, Config { k, classes }: Config) {
+pub fn spoil(rng: &mut Rng, station: &mut Station, own: u8, Config { k, classes, desk }: Config) {
     match rng.below(8) {
         0 if k < MOST_STATIONS => station.unstarted |= set::singleton(k + rng.station(MOST_STATIONS - k)),
-        1 if own != ROOT => station.parent = own,
+        1 if own != desk => station.parent = own,
         0..=2 => station.unstarted |= set::singleton(own),
         3 => station.parent = rng.pick(&[k, MOST_STATIONS, 255]),
         4 => station.waits = rng.pick(&[65, 66, 128, 255]),
@@ -102,16 +104,19 @@ pub fn any(rng: &mut Rng) -> Station {
     }
 }
 
-/// A record for one station: mostly in form, else spoiled in one field, its own number and its class count among them.
+/// A record for one station: mostly in form, else spoiled in one field, its own number, its class count and its
+/// desk among them.
 pub fn process(rng: &mut Rng) -> Process {
-    let own = if rng.chance(30) { ROOT } else { rng.station(MOST_STATIONS) };
-    let config = Config { k: MOST_STATIONS, classes: aggregate::class_count(rng) };
-    let mut process = Process { own, classes: config.classes, station: in_form(rng, own, config) };
+    let desk = desk(rng, MOST_STATIONS);
+    let own = if rng.chance(30) { desk } else { rng.station(MOST_STATIONS) };
+    let config = Config { k: MOST_STATIONS, classes: aggregate::class_count(rng), desk };
+    let mut process = Process { own, classes: config.classes, desk, station: in_form(rng, own, config) };
     match rng.below(20) {
         0..=3 => spoil(rng, &mut process.station, own, config),
         4 => process.own = rng.pick(&[64, 65, 255]),
         5 => process.classes = rng.pick(&NO_CLASS_COUNTS),
-        6 => process = Process { own: rng.byte(), classes: rng.byte(), station: any(rng) },
+        6 => process.desk = no_desk(rng, MOST_STATIONS),
+        7 => process = Process { own: rng.byte(), classes: rng.byte(), desk: rng.byte(), station: any(rng) },
         _ => {}
     }
     process
@@ -190,7 +195,8 @@ pub fn extremes() -> impl Iterator<Item = Process> {
             waits: digit(&mut number, &WAITS),
             state: digit(&mut number, &STATES),
         };
-        Process { own: digit(&mut number, &OWN), classes, station }
+        let (own, desk) = digit(&mut number, &OWN);
+        Process { own, classes, desk, station }
     })
 }
 

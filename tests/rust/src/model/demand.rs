@@ -3,7 +3,7 @@
 use super::map::Map;
 use super::net::{Net, Step};
 use super::refusal::{number, Cause};
-use super::{set, ROOT};
+use super::set;
 use crate::calls::{Call, NetCalls, Reply};
 use std::collections::BTreeSet;
 
@@ -77,8 +77,10 @@ impl<'a> Record<'a> {
         assert_eq!(reported, at_rest, "nothing is allowed just when the report was made");
         assert_eq!(reported, self.steps.len() == Record::whole(self.map), "all steps are made just when it was");
         if reported {
-            assert_eq!(self.steps.last().map(|step| step.kind), Some(self.report), "the report is last");
-            assert_eq!(net.stations()[usize::from(ROOT)].held, self.map.total(), "each class reports its own total");
+            let desk = self.map.desk;
+            let report = Step { kind: self.report, sender: desk, receiver: desk };
+            assert_eq!(self.steps.last(), Some(&report), "every order ends in that desk's report");
+            assert_eq!(net.stations()[usize::from(desk)].held, self.map.total(), "each class reports its own total");
             assert_eq!(messages + 1, Record::whole(self.map), "each link carried one message each way");
         }
     }

@@ -5,7 +5,7 @@ use super::aggregate::Aggregate;
 use super::map::Map;
 use super::net::{are_well_formed, fresh_stations, unfinished_total, Config, Net, Step};
 use super::station::{Station, ACTIVE, ASLEEP, FINISHED};
-use super::{set, CLASSES, PLACES, ROOT};
+use super::{set, CLASSES, PLACES};
 
 pub const DELIVERY: u8 = 1;
 pub const REPORT: u8 = 2;
@@ -127,10 +127,10 @@ impl Mail {
     }
 
     /// "After any delivery, a receiver other than 0 with waits zero posts its sum as an answer to its parent and is
-    /// finished."
+    /// finished." The desk takes the place of station 0.
     fn answer_if_done(&mut self, receiver: u8) {
         let station = &mut self.stations[usize::from(receiver)];
-        if receiver != ROOT && station.waits == 0 {
+        if receiver != self.config.desk && station.waits == 0 {
             let answer = station.finish(self.config.classes);
             self.outbox(receiver).post(answer.parent, Message::Answer(answer.gathered));
         }
@@ -143,7 +143,7 @@ impl Net for Mail {
     fn set_up(map: &Map) -> Mail {
         let outboxes = vec![Outbox::EMPTY; PLACES];
         let mut net = Mail { config: Config::of(map), stations: fresh_stations(map), outboxes };
-        net.outbox(ROOT).post_starts(map.neighbours[usize::from(ROOT)]);
+        net.outbox(map.desk).post_starts(map.neighbours[usize::from(map.desk)]);
         net
     }
 
@@ -187,7 +187,7 @@ impl Net for Mail {
 
     fn make(&mut self, step: Step) {
         if step.kind == REPORT {
-            self.stations[usize::from(ROOT)].finish(self.config.classes);
+            self.stations[usize::from(self.config.desk)].finish(self.config.classes);
         } else {
             self.deliver(step.sender, step.receiver);
         }

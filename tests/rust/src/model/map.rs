@@ -1,8 +1,8 @@
-//! The line map (document 01, and document 02, requests 2 and 4): its stored form, reading, acceptance and writing.
+//! The line map (document 01, and document 02, requests 2, 4 and 5): its stored form, reading, acceptance and writing.
 
 use super::aggregate::{in_use, is_class_count, Aggregate, Cell, NO_READING};
 use super::refusal::{Cause, Refusal};
-use super::{set, CLASSES, MOST_CLASSES, MOST_STATIONS, PLACES, ROOT};
+use super::{set, CLASSES, MOST_CLASSES, MOST_STATIONS, PLACES};
 
 pub const TRAILER: usize = 16;
 
@@ -14,6 +14,8 @@ pub struct Map {
     pub k: u8,
     /// c: how many counts a station has.
     pub classes: u8,
+    /// The station that starts the wave and reports.
+    pub desk: u8,
     pub lot: u64,
     /// By station, then by class.
     pub counts: [[u32; CLASSES]; PLACES],
@@ -21,8 +23,9 @@ pub struct Map {
 }
 
 impl Map {
+    /// With the desk at station 0.
     pub fn empty(k: u8, classes: u8, lot: u64) -> Map {
-        Map { k, classes, lot, counts: [[0; CLASSES]; PLACES], neighbours: [0; PLACES] }
+        Map { k, classes, desk: 0, lot, counts: [[0; CLASSES]; PLACES], neighbours: [0; PLACES] }
     }
 
     /// The places below k; the others say nothing.
@@ -37,7 +40,7 @@ impl Map {
 
     /// Zero past k and past c, as reading gives it.
     pub fn trimmed(&self) -> Map {
-        let mut map = Map::empty(self.k, self.classes, self.lot);
+        let mut map = Map { desk: self.desk, ..Map::empty(self.k, self.classes, self.lot) };
         for i in 0..usize::from(self.k) {
             map.counts[i][in_use(self.classes)].copy_from_slice(self.counts_of(i));
             map.neighbours[i] = self.neighbours[i];
@@ -83,14 +86,15 @@ fn stored_length(k: u8, classes: u8) -> usize {
 }
 
 /// The stored form: rows of counts and set, then the trailer, whose last word makes all words add to zero. The distance
-/// back "keeps the lower 2 bytes of its field. The upper 2 bytes become bits 32 to 47 of the lot."
+/// back "keeps the lower 2 bytes of its field. The upper 2 bytes become bits 32 to 47 of the lot." "The upper byte of the
+/// trailer's 2-byte field for k names the desk; k is the lower byte."
 pub fn stored(map: &Map) -> Vec<u8> {
     let mut bytes = Vec::with_capacity(map.stored_length());
     for i in 0..usize::from(map.k) {
         bytes.extend(map.counts_of(i).iter().flat_map(|count| count.to_le_bytes()));
         bytes.extend(map.neighbours[i].to_le_bytes());
     }
-    bytes.extend(u16::from(map.k).to_le_bytes());
+    bytes.extend([map.k, map.desk]);
     bytes.extend((row_length(map.classes) as u16).to_le_bytes());
     bytes.extend((distance(map.k, map.classes) as u16).to_le_bytes());
     let lot = map.lot.to_le_bytes();
@@ -106,33 +110,34 @@ pub fn word_sum(bytes: &[u8]) -> u32 {
     bytes.chunks_exact(4).map(|word| le32(word, 0)).fold(0, u32::wrapping_add)
 }
 
-/// Reads the map that ends with the lent bytes. Refusals 1 to 10, in order.
+/// Reads the map that ends with the lent bytes. Refusals 1 to 10 in order, with 19 after 3.
 pub fn read(bytes: &[u8]) -> Result<Map, Refusal> {
-    let (k, classes) = trailer_numbers(bytes)?;
+    let (k, classes, desk) = trailer_numbers(bytes)?;
     let own = &bytes[bytes.len() - stored_length(k, classes)..];
     if word_sum(own) != 0 {
         return Err(Cause::CheckWord.alone());
     }
-    let map = unpack(k, classes, own);
+    let map = unpack(k, classes, desk, own);
     accept(&map)?;
     Ok(map)
 }
 
-/// The trailer's k, and c by its row length. Refusals 1 to 5.
-fn trailer_numbers(bytes: &[u8]) -> Result<(u8, u8), Refusal> {
+/// The trailer's k, c by its row length, and the desk. Refusals 1 to 3, 19, 4 and 5.
+fn trailer_numbers(bytes: &[u8]) -> Result<(u8, u8, u8), Refusal> {
     let Some(start) = bytes.len().checked_sub(TRAILER) else {
         return Err(Cause::UnderTrailer.alone());
     };
     let trailer = &bytes[start..];
     let classes = classes_of_row(le16(trailer, 2)).ok_or(Cause::Classes.alone())?;
-    let k = u8::try_from(le16(trailer, 0)).ok().filter(|&k| is_station_count(k)).ok_or(Cause::StationCount.alone())?;
+    let [k, desk] = [trailer[0], trailer[1]];
+    is_of_stations(k, desk)?;
     if usize::from(le16(trailer, 4)) != distance(k, classes) {
         return Err(Cause::Distance.alone());
     }
     if distance(k, classes) > start {
         return Err(Cause::RowsMissing.alone());
     }
-    Ok((k, classes))
+    Ok((k, classes, desk))
 }
 
 /// "Row length not one of 12, 16, .. 40" is none.
@@ -141,10 +146,10 @@ fn classes_of_row(length: u16) -> Option<u8> {
 }
 
 /// The map in its own bytes, zero past k and past c.
-fn unpack(k: u8, classes: u8, own: &[u8]) -> Map {
+fn unpack(k: u8, classes: u8, desk: u8, own: &[u8]) -> Map {
     let (rows, trailer) = own.split_at(own.len() - TRAILER);
     let lot = u64::from(le32(trailer, 8)) | u64::from(le16(trailer, 6)) << 32;
-    let mut map = Map::empty(k, classes, lot);
+    let mut map = Map { desk, ..Map::empty(k, classes, lot) };
     for (i, row) in rows.chunks_exact(row_length(classes)).enumerate() {
         let (counts, set) = row.split_at(row.len() - 8);
         for (class, count) in counts.chunks_exact(4).enumerate() {
@@ -163,23 +168,28 @@ fn le32(bytes: &[u8], at: usize) -> u32 {
     u32::from(le16(bytes, at)) | u32::from(le16(bytes, at + 2)) << 16
 }
 
-fn is_station_count(k: u8) -> bool {
-    (1..=MOST_STATIONS).contains(&k)
+/// "k is 0 or above 64" (3), and then "19 when the desk is not below k, after 3".
+fn is_of_stations(k: u8, desk: u8) -> Result<(), Refusal> {
+    if !(1..=MOST_STATIONS).contains(&k) {
+        return Err(Cause::StationCount.alone());
+    }
+    if desk >= k {
+        return Err(Cause::Desk.alone());
+    }
+    Ok(())
 }
 
-/// A map handed over goes 2, 3, 7 to 10; each rule is tested over all stations before the next.
+/// A map handed over goes 2, 3, 19, 7 to 10; each rule is tested over all stations before the next.
 pub fn accept(map: &Map) -> Result<(), Refusal> {
     if !is_class_count(map.classes) {
         return Err(Cause::Classes.alone());
     }
-    if !is_station_count(map.k) {
-        return Err(Cause::StationCount.alone());
-    }
+    is_of_stations(map.k, map.desk)?;
     let sets = map.sets();
     none_offends(sets, Cause::NamesBeyond, |_, set| !set::is_within(set, map.k))?;
     none_offends(sets, Cause::NamesItself, |i, set| set::contains(set, i))?;
     none_offends(sets, Cause::NotMutual, |i, set| set::members(set).any(|j| !set::contains(sets[usize::from(j)], i)))?;
-    let joined = joined_to_root(sets);
+    let joined = joined_to(map.desk, sets);
     none_offends(sets, Cause::NoChain, |i, _| !set::contains(joined, i))
 }
 
@@ -191,9 +201,9 @@ fn none_offends(sets: &[u64], cause: Cause, offends: impl Fn(u8, u64) -> bool) -
     }
 }
 
-/// The stations with a chain of links to the root: what naming adds to it until nothing is new.
-fn joined_to_root(sets: &[u64]) -> u64 {
-    let mut joined = set::singleton(ROOT);
+/// The stations with a chain of links to the desk: what naming adds to it until nothing is new.
+fn joined_to(desk: u8, sets: &[u64]) -> u64 {
+    let mut joined = set::singleton(desk);
     loop {
         let wider = set::members(joined).fold(joined, |all, i| all | sets[usize::from(i)]);
         if wider == joined {
@@ -204,7 +214,7 @@ fn joined_to_root(sets: &[u64]) -> u64 {
 }
 
 /// Writes an accepted map at the first lent byte; the bytes past it stay. Gives the number of bytes filled. Refusals 2, 3,
-/// 7 to 10, 18, 15.
+/// 19, 7 to 10, 18, 15.
 pub fn write(map: &Map, buffer: &mut [u8]) -> Result<u32, Refusal> {
     accept(map)?;
     if map.lot >= LOT_LIMIT {

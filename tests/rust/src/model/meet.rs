@@ -4,7 +4,7 @@ use super::aggregate::Aggregate;
 use super::map::Map;
 use super::net::{are_well_formed, fresh_stations, unfinished_total, Config, Net, Step};
 use super::station::{Station, ACTIVE, ASLEEP};
-use super::{set, PLACES, ROOT};
+use super::{set, PLACES};
 
 pub const WAKE: u8 = 1;
 pub const PASS: u8 = 2;
@@ -53,7 +53,7 @@ impl Net for Meet {
             _ if sender == receiver => false,
             WAKE => is_started(ASLEEP),
             PASS => is_started(ACTIVE),
-            _ => sender != ROOT && from.is_ready() && from.parent == receiver && to.state == ACTIVE,
+            _ => sender != self.config.desk && from.is_ready() && from.parent == receiver && to.state == ACTIVE,
         }
     }
 

@@ -21,6 +21,3 @@ pub const MOST_STATIONS: u8 = PLACES as u8;
 pub const CLASSES: usize = 8;
 
 pub const MOST_CLASSES: u8 = CLASSES as u8;
-
-/// Station 0, the desk of document 01.
-pub const ROOT: u8 = 0;

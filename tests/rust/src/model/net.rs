@@ -5,19 +5,20 @@ use super::mail::Outbox;
 use super::map::{self, Map};
 use super::refusal::{admit, Cause, Refusal};
 use super::station::{Station, ACTIVE, ASLEEP, FINISHED};
-use super::{set, MOST_STATIONS, PLACES, ROOT};
+use super::{set, MOST_STATIONS, PLACES};
 use std::fmt::Debug;
 
-/// What a net is opened with: the numbers of its stations and of its classes.
+/// What a net is opened with: the numbers of its stations and of its classes, and its desk.
 #[derive(Clone, Copy, PartialEq, Eq, Debug)]
 pub struct Config {
     pub k: u8,
     pub classes: u8,
+    pub desk: u8,
 }
 
 impl Config {
     pub fn of(map: &Map) -> Config {
-        Config { k: map.k, classes: map.classes }
+        Config { k: map.k, classes: map.classes, desk: map.desk }
     }
 }
 
@@ -72,27 +73,28 @@ pub trait Net: Clone + PartialEq + Debug {
     /// What is not yet handed on: it adds up to the map's total before the report.
     fn outstanding(&self) -> Aggregate;
 
-    /// The fresh net of a map handed over: refusals 2, 3, 7 to 10.
+    /// The fresh net of a map handed over: refusals 2, 3, 19, 7 to 10.
     fn fresh(map: &Map) -> Result<Self, Refusal> {
         map::accept(map)?;
         Ok(Self::set_up(map))
     }
 
-    /// Number 12: kind, station numbers, and a report only at 0 and 0.
+    /// Number 12: kind, station numbers, and a report only at the desk and the desk.
     fn is_in_range(&self, step: Step) -> bool {
         (1..=Self::REPORT).contains(&step.kind)
             && step.sender < self.k()
             && step.receiver < self.k()
-            && (step.kind != Self::REPORT || (step.sender, step.receiver) == (ROOT, ROOT))
+            && (step.kind != Self::REPORT || [step.sender, step.receiver] == [self.config().desk; 2])
     }
 
     /// The allowed steps of a net in form, by kind, then sender, then receiver, rising.
     fn listing(&self) -> Vec<Step> {
         let mut steps = Vec::new();
         for kind in 1..=Self::REPORT {
-            let stations = if kind == Self::REPORT { 1 } else { self.k() };
-            for sender in 0..stations {
-                let to_any = (0..stations).map(|receiver| Step { kind, sender, receiver });
+            let Config { k, desk, .. } = self.config();
+            let stations = if kind == Self::REPORT { desk..desk + 1 } else { 0..k };
+            for sender in stations.clone() {
+                let to_any = stations.clone().map(|receiver| Step { kind, sender, receiver });
                 steps.extend(to_any.filter(|&step| self.is_allowed(step)));
             }
         }
@@ -137,13 +139,13 @@ pub fn fresh_stations(map: &Map) -> [Station; PLACES] {
     for (i, &neighbours) in map.sets().iter().enumerate() {
         let held = Aggregate::of(map.counts_of(i).iter().copied().map(Cell::of));
         let waits = set::size(neighbours);
-        stations[i] = Station { held, unstarted: neighbours, parent: ROOT, waits, state: ASLEEP };
+        stations[i] = Station { held, unstarted: neighbours, parent: map.desk, waits, state: ASLEEP };
     }
-    stations[usize::from(ROOT)].state = ACTIVE;
+    stations[usize::from(map.desk)].state = ACTIVE;
     stations
 }
 
-/// Form of the stations below k, of k and of c.
+/// Form of the stations below k, of k, of c and of the desk.
 pub fn are_well_formed(config: Config, stations: &[Station; PLACES]) -> bool {
     (1..=MOST_STATIONS).contains(&config.k)
         && (0..config.k).zip(stations).all(|(own, station)| station.is_well_formed(own, config))

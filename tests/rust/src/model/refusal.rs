@@ -1,4 +1,4 @@
-//! Causes and numbers (document 01, and document 02, request 4): why a call is refused, and what it returns then.
+//! Causes and numbers (document 01, and document 02, requests 4 and 5): why a call is refused, and what it returns then.
 
 #[derive(Clone, Copy, PartialEq, Eq, Debug)]
 #[repr(u8)]
@@ -21,6 +21,7 @@ pub enum Cause {
     OddDraws = 16,
     InputTooLong = 17,
     LotTooLong = 18,
+    Desk = 19,
 }
 
 impl Cause {

@@ -3,7 +3,7 @@
 use super::aggregate::{is_class_count, Aggregate};
 use super::net::Config;
 use super::refusal::{admit, Refusal};
-use super::{set, MOST_STATIONS, ROOT};
+use super::{set, MOST_STATIONS};
 
 pub const ASLEEP: u8 = 0;
 pub const ACTIVE: u8 = 1;
@@ -28,9 +28,10 @@ fn less_one(waits: u8) -> u8 {
 
 /// The events of Definition 3.1 without their guards.
 impl Station {
-    /// Form (11) at place `own` of `k`, and of c; of what it holds, only the classes in use are looked at.
-    pub fn is_well_formed(&self, own: u8, Config { k, classes }: Config) -> bool {
+    /// Form (11) at place `own` of `k`, and of c and the desk; of what it holds, only the classes in use are looked at.
+    pub fn is_well_formed(&self, own: u8, Config { k, classes, desk }: Config) -> bool {
         is_class_count(classes)
+            && desk < k
             && own < k
             && self.state <= FINISHED
             && self.parent < k
@@ -38,7 +39,7 @@ impl Station {
             && self.waits <= 64
             && self.held.is_bounded(classes)
             && !set::contains(self.unstarted, own)
-            && (own == ROOT || self.parent != own)
+            && (own == desk || self.parent != own)
     }
 
     /// Lines 5 and 6: nothing left to send, nothing left to wait for.
@@ -97,6 +98,7 @@ pub struct Answer {
 pub struct Process {
     pub own: u8,
     pub classes: u8,
+    pub desk: u8,
     pub station: Station,
 }
 
@@ -111,7 +113,8 @@ pub enum Event {
 
 impl Process {
     pub fn is_well_formed(&self) -> bool {
-        self.station.is_well_formed(self.own, Config { k: MOST_STATIONS, classes: self.classes })
+        let Process { own, classes, desk, station } = self;
+        station.is_well_formed(*own, Config { k: MOST_STATIONS, classes: *classes, desk: *desk })
     }
 
     /// One event; it gives an answer where the station sends one or reports.
@@ -143,8 +146,8 @@ impl Process {
             Event::TakeStart(_) => station.state != FINISHED,
             Event::SendStart(to) => station.state == ACTIVE && set::contains(station.unstarted, to),
             Event::TakeAnswer(_) => station.state == ACTIVE,
-            Event::SendAnswer => self.own != ROOT && station.is_ready(),
-            Event::Report => self.own == ROOT && station.is_ready(),
+            Event::SendAnswer => self.own != self.desk && station.is_ready(),
+            Event::Report => self.own == self.desk && station.is_ready(),
         }
     }
 }

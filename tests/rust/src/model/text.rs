@@ -18,7 +18,7 @@ pub fn output(input: &[u8]) -> String {
     }
 }
 
-/// Refusals 17, 1 to 10, 16.
+/// Refusals 17, 1 to 10 with 19 after 3, 16.
 fn parse(input: &[u8]) -> Result<(Vec<u16>, Map), Refusal> {
     if input.len() > INPUT_LIMIT {
         return Err(Cause::InputTooLong.alone());

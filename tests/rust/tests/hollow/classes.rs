@@ -1,10 +1,7 @@
 //! Classes, in either kind of net: one left out, one too many, and what stands past c looked at or altered.
 
-use super::faulty::{self, demand_3, Under};
-use super::is_caught;
+use super::faulty::{self, Faults};
 use conformance::calls::{Model, NetCalls};
-use conformance::compare::net::{freshness, hostile};
-use conformance::gen::net::Sample;
 use conformance::model::aggregate::Cell;
 use conformance::model::mail::Mail;
 use conformance::model::map::Map;
@@ -12,10 +9,6 @@ use conformance::model::meet::Meet;
 use conformance::model::net::{Net, Step};
 use conformance::model::refusal::Refusal;
 use conformance::model::{CLASSES, MOST_CLASSES};
-
-/// Enough nets, and enough lists, to meet each fault.
-const NETS: u64 = 1_000;
-const LISTS: u64 = 40;
 
 #[derive(Clone, Copy, Default, PartialEq, Debug)]
 enum Fault {
@@ -35,21 +28,25 @@ enum Fault {
     ClassCountNotOpened,
 }
 
-/// Of the rules for a step.
-const FAULTS: [Fault; 9] = [
-    Fault::LastNotJoined,
-    Fault::AllJoinedAsTheFirst,
-    Fault::PastCAdded,
-    Fault::PastCCleared,
-    Fault::LastUnbounded,
-    Fault::OnlyTheFirstBounded,
-    Fault::PastCBounded,
-    Fault::NineInForm,
-    Fault::NoneInForm,
-];
-
-/// Of an opening.
-const FRESH_FAULTS: [Fault; 3] = [Fault::LastNotOpened, Fault::PastCNotOpened, Fault::ClassCountNotOpened];
+fn faults() -> Faults<Fault> {
+    Faults {
+        nets: 1_000,
+        lists: 40,
+        of_steps: vec![
+            Fault::LastNotJoined,
+            Fault::AllJoinedAsTheFirst,
+            Fault::PastCAdded,
+            Fault::PastCCleared,
+            Fault::LastUnbounded,
+            Fault::OnlyTheFirstBounded,
+            Fault::PastCBounded,
+            Fault::NineInForm,
+            Fault::NoneInForm,
+        ],
+        of_openings: vec![Fault::LastNotOpened, Fault::PastCNotOpened, Fault::ClassCountNotOpened],
+        against_demand_3: vec![Fault::LastNotJoined, Fault::AllJoinedAsTheFirst, Fault::LastNotOpened],
+    }
+}
 
 impl<N: Net> faulty::Fault<N> for Fault {
     fn is_well_formed(self, net: &N) -> bool {
@@ -105,32 +102,14 @@ impl<N: Net> faulty::Fault<N> for Fault {
     }
 }
 
-fn the_faultless_passes<N: Sample>() {
-    hostile::<N>(&Under(Fault::Nothing), NETS);
-    freshness::<N>(&Under(Fault::Nothing), NETS);
-    demand_3::<N>(&Under(Fault::Nothing), LISTS);
-}
-
-fn every_fault_is_caught<N: Sample>() {
-    for fault in FAULTS {
-        assert!(is_caught(|| hostile::<N>(&Under(fault), NETS)), "{fault:?} passes");
-    }
-    for fault in FRESH_FAULTS {
-        assert!(is_caught(|| freshness::<N>(&Under(fault), NETS)), "{fault:?} passes");
-    }
-    for fault in [Fault::LastNotJoined, Fault::AllJoinedAsTheFirst, Fault::LastNotOpened] {
-        assert!(is_caught(|| demand_3::<N>(&Under(fault), LISTS)), "{fault:?} passes demand 3");
-    }
-}
-
 #[test]
 fn stations_that_meet() {
-    the_faultless_passes::<Meet>();
-    every_fault_is_caught::<Meet>();
+    faults().spare_the_faultless::<Meet>();
+    faults().are_caught::<Meet>();
 }
 
 #[test]
 fn stations_with_mail() {
-    the_faultless_passes::<Mail>();
-    every_fault_is_caught::<Mail>();
+    faults().spare_the_faultless::<Mail>();
+    faults().are_caught::<Mail>();
 }

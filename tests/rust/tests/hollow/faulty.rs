@@ -1,7 +1,8 @@
 //! A net of the model with a fault in its rules: whatever the fault does not name goes as in the model.
 
+use super::is_caught;
 use conformance::calls::{Model, NetCalls};
-use conformance::compare::net::list;
+use conformance::compare::net::{freshness, hostile, list};
 use conformance::gen::map::accepted;
 use conformance::gen::net::Sample;
 use conformance::model::aggregate::Aggregate;
@@ -12,11 +13,16 @@ use conformance::model::station::Station;
 use conformance::model::PLACES;
 use conformance::rng::for_cases;
 use std::fmt::Debug;
+use std::panic::UnwindSafe;
 
 /// The rules that a fault may bend. The default fault bends none.
 pub trait Fault<N: Net>: Copy + Default + PartialEq + Debug {
     fn is_well_formed(self, net: &N) -> bool {
         net.is_well_formed()
+    }
+
+    fn is_in_range(self, net: &N, step: Step) -> bool {
+        net.is_in_range(step)
     }
 
     fn is_allowed(self, net: &N, step: Step) -> bool {
@@ -71,6 +77,10 @@ impl<N: Net, F: Fault<N>> Net for Faulty<N, F> {
         self.fault.is_well_formed(&self.net)
     }
 
+    fn is_in_range(&self, step: Step) -> bool {
+        self.fault.is_in_range(&self.net, step)
+    }
+
     fn is_allowed(&self, step: Step) -> bool {
         self.fault.is_allowed(&self.net, step)
     }
@@ -113,4 +123,45 @@ pub fn demand_3<N: Sample>(subject: &impl NetCalls<N>, lists: u64) {
         subject.fresh(&map, &mut net).expect("the map is accepted");
         list(subject, rng, &map, net, |net, call| subject.call(net, call));
     });
+}
+
+/// Faults of a kind of net, by what has to catch them: with as many nets, and lists, as it takes to meet each.
+pub struct Faults<F> {
+    pub nets: u64,
+    pub lists: u64,
+    /// Of the rules for a step, and of the form.
+    pub of_steps: Vec<F>,
+    pub of_openings: Vec<F>,
+    /// Those that demand 3 alone catches too.
+    pub against_demand_3: Vec<F>,
+}
+
+impl<F> Faults<F> {
+    /// The net without a fault passes.
+    pub fn spare_the_faultless<N: Sample>(&self)
+    where
+        F: Fault<N>,
+    {
+        let faultless = Under(F::default());
+        hostile::<N>(&faultless, self.nets);
+        freshness::<N>(&faultless, self.nets);
+        demand_3::<N>(&faultless, self.lists);
+    }
+
+    /// No net with a fault passes.
+    pub fn are_caught<N: Sample>(&self)
+    where
+        F: Fault<N> + UnwindSafe,
+    {
+        let (nets, lists) = (self.nets, self.lists);
+        for &fault in &self.of_steps {
+            assert!(is_caught(move || hostile::<N>(&Under(fault), nets)), "{fault:?} passes");
+        }
+        for &fault in &self.of_openings {
+            assert!(is_caught(move || freshness::<N>(&Under(fault), nets)), "{fault:?} passes");
+        }
+        for &fault in &self.against_demand_3 {
+            assert!(is_caught(move || demand_3::<N>(&Under(fault), lists)), "{fault:?} passes demand 3");
+        }
+    }
 }

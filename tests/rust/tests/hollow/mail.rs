@@ -1,9 +1,7 @@
 //! Stations with mail: what may go wrong with boxes that are read from words and written to words, class by class.
 
-use super::faulty::{self, Under};
-use super::is_caught;
+use super::faulty::{self, Faults};
 use conformance::calls::{Model, NetCalls};
-use conformance::compare::net::{freshness, hostile};
 use conformance::model::aggregate::{MOST_MISSING, SUM_LIMIT};
 use conformance::model::mail::{Mail, Message, Outbox, DELIVERY};
 use conformance::model::map::Map;
@@ -11,9 +9,6 @@ use conformance::model::net::{Config, Net, Step};
 use conformance::model::refusal::Refusal;
 use conformance::model::station::{ASLEEP, FINISHED};
 use conformance::model::{set, CLASSES, MOST_CLASSES, PLACES};
-
-/// Enough nets to meet each fault.
-const NETS: u64 = 1_000;
 
 /// The words of what answers bring: the missing numbers, or the sums of a class.
 #[derive(Clone, Copy, PartialEq, Debug)]
@@ -91,9 +86,8 @@ enum Fault {
     RefusedFreshClearsTheSets,
 }
 
-/// Of the rules for a step.
-fn faults() -> Vec<Fault> {
-    let mut faults = vec![
+fn faults() -> Faults<Fault> {
+    let mut of_steps = vec![
         Fault::EmptyingClearsOneSet,
         Fault::StartPostedBesideTheAnswer,
         Fault::AnswerPostedBesideTheStart,
@@ -108,16 +102,12 @@ fn faults() -> Vec<Fault> {
         Fault::WordPastKCleared,
     ];
     for plane in PLANES {
-        faults.extend([Fault::EmptyingClears(plane), Fault::StartPostedOver(plane)]);
-        faults.extend([Fault::AnswerPostedWithout(plane), Fault::AnswerUnbounded(plane)]);
-        faults.extend(STRAYS.map(|stray| Fault::OutOfForm(stray, plane)));
+        of_steps.extend([Fault::EmptyingClears(plane), Fault::StartPostedOver(plane)]);
+        of_steps.extend([Fault::AnswerPostedWithout(plane), Fault::AnswerUnbounded(plane)]);
+        of_steps.extend(STRAYS.map(|stray| Fault::OutOfForm(stray, plane)));
     }
-    faults
-}
-
-/// Of an opening.
-fn fresh_faults() -> impl Iterator<Item = Fault> {
-    PLANES.map(Fault::FreshLeaves).into_iter().chain([Fault::RefusedFreshClearsTheSets])
+    let of_openings = PLANES.map(Fault::FreshLeaves).into_iter().chain([Fault::RefusedFreshClearsTheSets]).collect();
+    Faults { nets: 1_000, lists: 40, of_steps, of_openings, against_demand_3: vec![] }
 }
 
 /// The net with its words changed.
@@ -180,7 +170,7 @@ impl faulty::Fault<Mail> for Fault {
             return;
         }
         let (was_from, mut was_to) = (before.outboxes[sender], before.outboxes[receiver]);
-        let (Config { k, classes }, held) = (net.config, net.stations[receiver].held);
+        let (Config { k, classes, .. }, held) = (net.config, net.stations[receiver].held);
         let parent = net.stations[receiver].parent;
         let at_parent = usize::from(parent);
         let [from, to] = net.outboxes.get_disjoint_mut([sender, receiver]).expect("different stations");
@@ -224,16 +214,10 @@ impl faulty::Fault<Mail> for Fault {
 
 #[test]
 fn the_faultless_passes() {
-    hostile(&Under(Fault::Nothing), NETS);
-    freshness(&Under(Fault::Nothing), NETS);
+    faults().spare_the_faultless::<Mail>();
 }
 
 #[test]
 fn comparison_catches_every_fault() {
-    for fault in faults() {
-        assert!(is_caught(|| hostile(&Under(fault), NETS)), "{fault:?} passes");
-    }
-    for fault in fresh_faults() {
-        assert!(is_caught(|| freshness(&Under(fault), NETS)), "{fault:?} passes");
-    }
+    faults().are_caught::<Mail>();
 }

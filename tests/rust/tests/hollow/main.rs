@@ -1,7 +1,8 @@
-//! The tests' own tests: document 01's hollow programs and wrong turns, those of missing readings, of classes, of lots and
-//! of words, must not pass. Each is the model of a station, of maps or of a kind of net with one fault.
+//! The tests' own tests: document 01's hollow programs and wrong turns, those of missing readings, of classes, of lots,
+//! of desks and of words, must not pass. Each is the model of a station, of maps or of a kind of net with one fault.
 
 mod classes;
+mod desk;
 mod faulty;
 mod mail;
 mod map;

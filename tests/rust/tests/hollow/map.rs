@@ -1,4 +1,4 @@
-//! Maps: what may go wrong with rows of several counts and with long lots, stored and handed over.
+//! Maps: what may go wrong with rows of several counts, with long lots and with desks, stored and handed over.
 
 use super::is_caught;
 use conformance::calls::{MapCalls, Model};
@@ -31,10 +31,18 @@ enum Fault {
     LotTestedFirst,
     LotTestedLast,
     LotTestedByAccept,
+    DeskNotRead,
+    StationsOfTwoBytes,
+    DeskBeforeStations,
+    DeskAfterDistance,
+    DeskNotWritten,
+    DeskUntested,
+    DeskTestedLast,
+    ChainsToZero,
 }
 
 /// Of reading, and of a map handed over.
-const READ_FAULTS: [Fault; 7] = [
+const READ_FAULTS: [Fault; 11] = [
     Fault::RowsOfTwelveOnly,
     Fault::NineClassesRead,
     Fault::DistanceUntested,
@@ -42,8 +50,12 @@ const READ_FAULTS: [Fault; 7] = [
     Fault::PastCLeftByReading,
     Fault::UpperHalfNotRead,
     Fault::DistanceOfFourBytes,
+    Fault::DeskNotRead,
+    Fault::StationsOfTwoBytes,
+    Fault::DeskBeforeStations,
+    Fault::DeskAfterDistance,
 ];
-const HANDED_OVER_FAULTS: [Fault; 11] = [
+const HANDED_OVER_FAULTS: [Fault; 16] = [
     Fault::StationsTestedFirst,
     Fault::ClassesUntested,
     Fault::NineAccepted,
@@ -55,6 +67,11 @@ const HANDED_OVER_FAULTS: [Fault; 11] = [
     Fault::LotTestedFirst,
     Fault::LotTestedLast,
     Fault::LotTestedByAccept,
+    Fault::DeskBeforeStations,
+    Fault::DeskNotWritten,
+    Fault::DeskUntested,
+    Fault::DeskTestedLast,
+    Fault::ChainsToZero,
 ];
 
 impl Fault {
@@ -67,9 +84,21 @@ impl Fault {
             Fault::NineAccepted if map.classes == MOST_CLASSES + 1 => seen.classes = MOST_CLASSES,
             Fault::UpperHalfNotWritten if map.lot < LOT_LIMIT => seen.lot = map.lot % (1 << 32),
             Fault::LotUntested => seen.lot = map.lot % LOT_LIMIT,
+            Fault::DeskUntested => seen.desk = map.desk.min(map.k.saturating_sub(1)),
+            Fault::DeskNotWritten | Fault::ChainsToZero if map.desk < map.k => seen.desk = 0,
             _ => {}
         }
         seen
+    }
+
+    /// A rule on desks in another place than its own.
+    fn desk(self, map: &Map) -> Result<(), Refusal> {
+        let has_classes = (1..=MOST_CLASSES).contains(&map.classes);
+        match self {
+            Fault::DeskBeforeStations if has_classes && map.desk >= map.k => Err(Cause::Desk.alone()),
+            Fault::DeskTestedLast if map.desk >= map.k => Model.accept(&Map { desk: 0, ..*map }),
+            _ => Ok(()),
+        }
     }
 
     /// A rule on lots where there is none.
@@ -101,10 +130,17 @@ fn with_word(bytes: &[u8], at: usize, word: u32) -> Vec<u8> {
 impl MapCalls for Fault {
     fn read(&self, bytes: &[u8], map: &mut Map) -> Result<(), Refusal> {
         let before = *map;
-        let [k, row, upper] = [0, 2, 6].map(|at| field(bytes, at).map_or(0, u32::from));
+        let [stations, row, distance, upper] = [0, 2, 4, 6].map(|at| field(bytes, at).map_or(0, u32::from));
+        let (k, desk) = (stations % 256, stations / 256);
+        let is_row = (12..=40).contains(&row) && row % 4 == 0;
         match self {
+            Fault::StationsOfTwoBytes if is_row && desk > 0 => return Err(Cause::StationCount.alone()),
+            Fault::DeskBeforeStations if is_row && desk >= k => return Err(Cause::Desk.alone()),
+            Fault::DeskAfterDistance if is_row && (1..=64).contains(&k) && distance != row * k => {
+                return Err(Cause::Distance.alone())
+            }
             Fault::RowsOfTwelveOnly if row > 12 => return Err(Cause::Classes.alone()),
-            Fault::NineClassesRead if row == 44 => return Model.read(&with_word(bytes, 0, k | 40 << 16), map),
+            Fault::NineClassesRead if row == 44 => return Model.read(&with_word(bytes, 0, stations | 40 << 16), map),
             Fault::DistanceUntested if row > 0 => {
                 return Model.read(&with_word(bytes, 4, k * row % (1 << 16) | upper << 16), map)
             }
@@ -114,6 +150,9 @@ impl MapCalls for Fault {
         Model.read(bytes, map)?;
         if *self == Fault::UpperHalfNotRead {
             map.lot %= 1 << 32;
+        }
+        if *self == Fault::DeskNotRead {
+            map.desk = 0;
         }
         let classes = usize::from(map.classes);
         for i in 0..usize::from(map.k) {
@@ -129,11 +168,13 @@ impl MapCalls for Fault {
     }
 
     fn accept(&self, map: &Map) -> Result<(), Refusal> {
+        self.desk(map)?;
         Model.accept(&self.seen(map))?;
         self.lot(Fault::LotTestedByAccept, map)
     }
 
     fn write(&self, map: &Map, buffer: &mut [u8]) -> Result<u32, Refusal> {
+        self.desk(map)?;
         self.lot(Fault::LotTestedFirst, map)?;
         let mut seen = self.seen(map);
         let last = usize::from(seen.classes.clamp(1, MOST_CLASSES)) - 1;
@@ -142,6 +183,10 @@ impl MapCalls for Fault {
                 (0..PLACES).for_each(|i| seen.counts[i][last] ^= seen.counts[i][last + 1])
             }
             Fault::LotTestedLast if buffer.len() < seen.stored_length() => seen.lot %= LOT_LIMIT,
+            Fault::ChainsToZero => {
+                Model.accept(&seen)?;
+                seen.desk = map.desk;
+            }
             Fault::LastCountNotWritten => seen.counts.iter_mut().for_each(|counts| counts[last] = 0),
             _ => {}
         }
@@ -154,6 +199,7 @@ impl MapCalls for Fault {
     }
 
     fn links(&self, map: &Map) -> Result<u32, Refusal> {
+        self.desk(map)?;
         self.lot(Fault::LotTestedByAccept, map)?;
         Model.links(&self.seen(map))
     }

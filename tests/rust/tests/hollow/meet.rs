@@ -10,7 +10,7 @@ use conformance::model::map::Map;
 use conformance::model::meet::{Meet, ANSWER, PASS, REPORT, WAKE};
 use conformance::model::net::{Net, Run, Step};
 use conformance::model::refusal::{Cause, Refusal};
-use conformance::model::{set, CLASSES, ROOT};
+use conformance::model::{set, CLASSES};
 
 /// Enough lists, and enough nets, to meet each fault.
 const LISTS: u64 = 40;
@@ -82,6 +82,7 @@ impl faulty::Fault<Meet> for Fault {
     }
 
     fn make(self, net: &mut Meet, step: Step) {
+        let desk = net.config.desk;
         let missing_before = net.stations[usize::from(step.receiver)].held.missing;
         net.make(step);
         let receiver = &mut net.stations[usize::from(step.receiver)];
@@ -89,7 +90,7 @@ impl faulty::Fault<Meet> for Fault {
             (Fault::WaitsCountedWithoutTheParent, WAKE) => {
                 receiver.waits = set::size(receiver.unstarted).saturating_sub(1);
             }
-            (Fault::StartTakenAsNewParent, PASS) if step.receiver != ROOT => receiver.parent = step.sender,
+            (Fault::StartTakenAsNewParent, PASS) if step.receiver != desk => receiver.parent = step.sender,
             (Fault::TotalFixedBeforehand, REPORT) => receiver.held = Aggregate::of([Cell { sum: 23, missing: 0 }]),
             (Fault::MissingKeptBack, ANSWER) => receiver.held.missing = missing_before,
             (Fault::MissingAddedAtTheReport, REPORT) => receiver.held.sums[0] += u64::from(missing_before[0]),

@@ -1,5 +1,5 @@
-//! One station: what may go wrong with missing numbers and with classes, in the record, handed over, and given, and with the size of a
-//! set that is counted over part of its word.
+//! One station: what may go wrong with missing numbers and with classes, in the record, handed over, and given, with the size of a
+//! set that is counted over part of its word, and with the desk.
 
 use super::is_caught;
 use conformance::calls::{Model, StationCalls};
@@ -7,7 +7,7 @@ use conformance::compare::station::{at_extremes, lists};
 use conformance::model::aggregate::{Aggregate, Cell, MOST_MISSING};
 use conformance::model::refusal::{Cause, Refusal};
 use conformance::model::station::{Event, Process, ASLEEP};
-use conformance::model::{set, CLASSES, MOST_CLASSES};
+use conformance::model::{set, CLASSES, MOST_CLASSES, MOST_STATIONS};
 
 /// Enough lists to meet each fault.
 const LISTS: u64 = 5_000;
@@ -32,9 +32,12 @@ enum Fault {
     NineClassesInForm,
     HalfAWordCounted,
     LastStationUncounted,
+    DeskStillZero,
+    DeskUntested,
+    OwnParentRefused,
 }
 
-const FAULTS: [Fault; 17] = [
+const FAULTS: [Fault; 20] = [
     Fault::RecordUnbounded,
     Fault::MostInTheRecordRefused,
     Fault::HandedOverUnbounded,
@@ -52,6 +55,9 @@ const FAULTS: [Fault; 17] = [
     Fault::NineClassesInForm,
     Fault::HalfAWordCounted,
     Fault::LastStationUncounted,
+    Fault::DeskStillZero,
+    Fault::DeskUntested,
+    Fault::OwnParentRefused,
 ];
 
 impl Fault {
@@ -95,6 +101,12 @@ impl Fault {
             (Fault::PastCBounded, 1..=MOST_CLASSES) | (Fault::NineClassesInForm, 9) => MOST_CLASSES,
             (_, classes) => classes,
         };
+        match self {
+            Fault::DeskStillZero if process.desk < MOST_STATIONS => process.desk = 0,
+            Fault::DeskUntested => process.desk = process.desk.min(MOST_STATIONS - 1),
+            Fault::OwnParentRefused if process.station.parent == process.own => return Err(Cause::OutOfForm.alone()),
+            _ => {}
+        }
         Model.event(&mut process, event).0.map_err(|refusal| match (self, refusal.number) {
             (Fault::TooManyHandedOverOutOfForm, 12) => Cause::OutOfForm.alone(),
             _ => refusal,

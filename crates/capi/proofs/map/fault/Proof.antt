@@ -9,6 +9,9 @@ enum-told c = search needs
 enum-told-2 : tie.Need-enum-told-2
 enum-told-2 c = search needs
 
+enum-told-3 : tie.Need-enum-told-3
+enum-told-3 c = search needs
+
 enum-known-why : tie.Need-enum-known-why
 enum-known-why c = search needs
 
@@ -52,16 +55,19 @@ returns-2 : tie.Need-returns-2
 returns-2 c = search needs
 
 returns-3 : tie.Need-returns-3
-returns-3 c = rw (c .before .before .why .given .1) (c .with-value .ensures)
+returns-3 c = search needs
 
 returns-4 : tie.Need-returns-4
-returns-4 c = rw (c .before .before .why2 .given .1) (c .with-value2 .ensures)
+returns-4 c = rw (c .before .before .why .given .1) (c .with-value .ensures)
 
 returns-5 : tie.Need-returns-5
-returns-5 c = rw (c .before .before .why3 .given .1) (c .with-value3 .ensures)
+returns-5 c = rw (c .before .before .why2 .given .1) (c .with-value2 .ensures)
 
 returns-6 : tie.Need-returns-6
-returns-6 c = rw (c .before .before .why4 .given .1) (c .with-value4 .ensures)
+returns-6 c = rw (c .before .before .why3 .given .1) (c .with-value3 .ensures)
+
+returns-7 : tie.Need-returns-7
+returns-7 c = rw (c .before .before .why4 .given .1) (c .with-value4 .ensures)
 
 pub fault-spec : {M : Type 1} → statement M
 fault-spec =
@@ -69,6 +75,7 @@ fault-spec =
     (tie.spec
     enum-told
     enum-told-2
+    enum-told-3
     enum-known-why
     cast-with-value
     with-value-requires
@@ -86,4 +93,5 @@ fault-spec =
     returns-3
     returns-4
     returns-5
-    returns-6)
+    returns-6
+    returns-7)

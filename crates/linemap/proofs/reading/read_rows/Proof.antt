@@ -30,14 +30,14 @@ abbrev setOf : List ℕ → ℕ → ℕ → ℕ → ℕ
 setOf s c k i = number s (startOf s c k + rowLength c * i + 4 * c) 8
 
 abbrev Inv-loop : tie.InvT-loop
-Inv-loop s classes k lot need width rows counts₀ neighbours₀ i₀ counts neighbours i =
+Inv-loop s classes k desk lot need width rows counts₀ neighbours₀ i₀ counts neighbours i =
     (i ≤ k)
     × ((i ≡ 0) ⊎ (storedLength classes k ≤ length s))
     × (counts ≡ grid (countsOf s classes k) classes i)
     × (neighbours ≡ column 64 (setOf s classes k) i)
 
 abbrev μ-loop : tie.MeasureT-loop
-μ-loop s classes k lot need width rows counts₀ neighbours₀ i₀ counts neighbours i = k - i
+μ-loop s classes k desk lot need width rows counts₀ neighbours₀ i₀ counts neighbours i = k - i
 
 -- the counts of row i, stored behind those of the rows before it
 counts-more : {l l′ : List ℕ} {at : ℕ} (s : List ℕ) (c k i : ℕ) → c ≤ 8 → i < 64 → l ≡ grid (countsOf s c k) c i
@@ -91,7 +91,7 @@ returns c =
     let a = loop .before .before .before .before .args in
     let outside = row-outside (a .s .now) _ _ (sym (c .before .before .before .read-row .ensures) ∙ c .before .enum-told .given .1) in
     let far : length (a .s .now) < storedLength (a .classes) (a .k) = omega (arith, outside, loop .before .before .stored-length .ensures) in
-    ap readOutcomeOf (c .unread .ensures) ∙ sym (rows-outside (a .s .now) (a .classes) (a .k) (a .lot) far)
+    ap readOutcomeOf (c .unread .ensures) ∙ sym (rows-outside (a .s .now) (a .classes) (a .k) (a .desk) (a .lot) far)
 
 -- what the row that was read is
 row-is : (c : tie.After-row Inv-loop μ-loop)
@@ -174,7 +174,7 @@ returns-2 : tie.Need-returns-2 Inv-loop μ-loop
 returns-2 c =
     let a = c .before .before .before .before .before .before .before .before .args in
     ap readOutcomeOf (c .unread2 .ensures)
-    ∙ sym (words-off (a .s .now) (a .classes) (a .k) (a .lot) (all-fit (c .before .before .before))
+    ∙ sym (words-off (a .s .now) (a .classes) (a .k) (a .desk) (a .lot) (all-fit (c .before .before .before))
     (λ z. c .before .if1 .taken (summed (c .before .before) ∙ z)))
 
 judge-requires : tie.Need-judge-requires Inv-loop μ-loop
@@ -187,10 +187,10 @@ returns-3 c =
     let inv = c .before .before .before .before .loop .inv in
     let all = all-read (c .before .before .before) in
     c .judge .ensures
-    ∙ ap₂ (λ (x y : List ℕ). judged (record { k = a .k; classes = a .classes; lot = a .lot; counts = x; neighbours = y }))
+    ∙ ap₂ (λ (x y : List ℕ). judged (record { k = a .k; classes = a .classes; desk = a .desk; lot = a .lot; counts = x; neighbours = y }))
     (inv .2 ∙ ap (grid (countsOf s (a .classes) (a .k)) (a .classes)) all)
     (inv .3 ∙ ap (column 64 (setOf s (a .classes) (a .k))) all)
-    ∙ sym (words-add s (a .classes) (a .k) (a .lot) (all-fit (c .before .before .before))
+    ∙ sym (words-add s (a .classes) (a .k) (a .desk) (a .lot) (all-fit (c .before .before .before))
     (sym (summed (c .before .before)) ∙ c .before .if1 .left))
 
 pub read-rows-spec : {M : Type 1} → statement M

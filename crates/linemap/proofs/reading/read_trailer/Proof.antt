@@ -39,16 +39,22 @@ add-get-4 c = search needs
 get-requires-5 : tie.Need-get-requires-5
 get-requires-5 c κs = search needs
 
-mul-t14 : tie.Need-mul-t14
-mul-t14 c = search needs
+add-get-5 : tie.Need-add-get-5
+add-get-5 c = search needs
 
-add-t15 : tie.Need-add-t15
-add-t15 c = search needs
+get-requires-6 : tie.Need-get-requires-6
+get-requires-6 c κs = search needs
+
+mul-t16 : tie.Need-mul-t16
+mul-t16 c = search needs
+
+add-t17 : tie.Need-add-t17
+add-t17 c = search needs
 
 returns-2 : tie.Need-returns-2
 unfolding trailerOf
 returns-2 c =
-    rw (le-leb trailerLength (length (c .before .before .before .before .before .before .before .args .s .now)) (omega arith)) (cc)
+    rw (le-leb trailerLength (length (c .before .before .before .before .before .before .before .before .args .s .now)) (omega arith)) (cc)
 
 pub read-trailer-spec : {M : Type 1} → statement M
 read-trailer-spec =
@@ -64,6 +70,8 @@ read-trailer-spec =
     get-requires-4
     add-get-4
     get-requires-5
-    mul-t14
-    add-t15
+    add-get-5
+    get-requires-6
+    mul-t16
+    add-t17
     returns-2)

@@ -1,4 +1,4 @@
--- `linemap::writing::put_trailer` meets its contract: five numbers, one right after the other. Assumes nothing.
+-- `linemap::writing::put_trailer` meets its contract: six numbers, one right after the other. Assumes nothing.
 use borrow.Author.Needs.{needs}
 use Rattle.linemap.proofs.StoredForm.{trailer-laid}
 use Rattle.linemap.proofs.writing.put_trailer.Statement.{statement}
@@ -34,22 +34,30 @@ add-put-4 c = search needs
 put-requires-5 : tie.Need-put-requires-5
 put-requires-5 c κs = search needs
 
+add-put-5 : tie.Need-add-put-5
+add-put-5 c = search needs
+
+put-requires-6 : tie.Need-put-requires-6
+put-requires-6 c κs = search needs
+
 same-length : tie.Need-same-length
 same-length c = search needs
 
 returns : tie.Need-returns
 returns c =
-    let fourth = c .before .before .before .before in
+    let fifth = c .before .before .before .before in
+    let fourth = fifth .before .before .before .before in
     let third = fourth .before .before .before .before in
     let second = third .before .before .before .before in
     let first = second .before .before .before .before in
     let a = first .before .before .before .before .before .args in
-    trailer-laid (a .buf .now) (a .width) (a .k) (a .lot)
+    trailer-laid (a .buf .now) (a .width) (a .k) (a .desk) (a .lot)
     (first .before .before .put .ensures)
     (second .before .before .put2 .ensures)
     (third .before .before .put3 .ensures)
     (fourth .before .before .put4 .ensures)
-    (c .before .before .put5 .ensures)
+    (fifth .before .before .put5 .ensures)
+    (c .before .before .put6 .ensures)
 
 pub put-trailer-spec : {M : Type 1} → statement M
 put-trailer-spec =
@@ -65,5 +73,7 @@ put-trailer-spec =
     put-requires-4
     add-put-4
     put-requires-5
+    add-put-5
+    put-requires-6
     same-length
     returns)

@@ -7,25 +7,21 @@ use Rattle.station.proofs.Process.is_well_formed.Tie as tie
 config-requires : tie.Need-config-requires
 config-requires c κs = search needs
 
-cast-is-class-count : tie.Need-cast-is-class-count
-cast-is-class-count c = search needs
-
-is-class-count-requires : tie.Need-is-class-count-requires
-is-class-count-requires c κs = search needs
+is-valid-requires : tie.Need-is-valid-requires
+is-valid-requires c κs = search needs
 
 is-well-formed-requires : tie.Need-is-well-formed-requires
 is-well-formed-requires c κs = search needs
 
 returns : tie.Need-returns
 unfolding wellFormedProcess
-returns c = rw (c .is-well-formed .ensures, c .before .before .is-class-count .ensures, c .before .before .before .before .before .config .ensures)
+returns c = rw (c .is-well-formed .ensures, c .before .before .is-valid .ensures, c .before .before .before .before .config .ensures)
 
 pub is-well-formed-spec : {M : Type 1} → statement M
 is-well-formed-spec =
     tie.close
     (tie.spec
     config-requires
-    cast-is-class-count
-    is-class-count-requires
+    is-valid-requires
     is-well-formed-requires
     returns)
