@@ -1,6 +1,6 @@
 -- Readings joined over stations, class by class: in plain sums, and bounded, as is every part of them. Assumes nothing.
 use mathlib.Core.Path.{_≡_, refl, ap, _∙_}
-use mathlib.Core.Bool.{true, cond}
+use mathlib.Core.Bool.{Bool, true, cond}
 use Prim.Native.Nat.{ℕ, zero, suc, _+_, _*_, _^_, _<_, _≤_}
 use native.Mathlib.Omega.{arith}
 use lib.ListN.{getD}
@@ -13,7 +13,7 @@ use Rattle.aggregate.specs.declared.Config.{Config}
 use Rattle.aggregate.specs.declared.Reading.{Reading}
 use Rattle.aggregate.specs.declared.Cell.{Cell}
 use Rattle.aggregate.specs.declared.Aggregate.{Aggregate}
-use Rattle.aggregate.specs.Aggregate.{used, cellBounded, bounded, isMissing, cellGathered, gathered, cellJoined}
+use Rattle.aggregate.specs.Aggregate.{used, zeroCell, cellBounded, bounded, isMissing, cellGathered, gathered, cellJoined}
 use Rattle.aggregate.specs.internal.Joining.{pair, joiningCells, cells, joining}
 use Rattle.aggregate.proofs.Laws.{parts-bounded, cells-gathered, bounded-cells}
 
@@ -29,12 +29,17 @@ gathered-parts : (n : ℕ) → cellGathered n ≡ record { sum = cond (isMissing
 unfolding cellGathered
 gathered-parts n = by-bool (isMissing n) (λ e. rw e) (λ e. rw e)
 
--- what the counts of k stations give
-pub counts-total : (k : ℕ) (counts : ℕ → ℕ)
-    → sumTo joiningCells k (λ s. cellGathered (counts s))
-    ≡ record { sum = sum k (λ s. cond (isMissing (counts s)) 0 (counts s)); missing = sum k (λ s. cond (isMissing (counts s)) 1 0) }
-counts-total k counts =
-    sum-ext joiningCells k _ _ (λ s l. gathered-parts (counts s)) ∙ cell-total k (λ s. record { sum = cond (isMissing (counts s)) 0 (counts s); missing = cond (isMissing (counts s)) 1 0 })
+-- what the counts of those of k stations give that pass a test
+pub counts-total : (k : ℕ) (chosen : ℕ → Bool) (counts : ℕ → ℕ)
+    → sumTo joiningCells k (λ s. cond (chosen s) (cellGathered (counts s)) zeroCell)
+    ≡ record {
+      sum = sum k (λ s. cond (chosen s) (cond (isMissing (counts s)) 0 (counts s)) 0);
+      missing = sum k (λ s. cond (chosen s) (cond (isMissing (counts s)) 1 0) 0);
+    }
+counts-total k chosen counts =
+    sum-ext joiningCells k _ _ (λ s l. by-bool (chosen s) (λ e. rw e (gathered-parts (counts s))) (λ e. rw e))
+    ∙ cell-total k (λ s.
+    record { sum = cond (chosen s) (cond (isMissing (counts s)) 0 (counts s)) 0; missing = cond (chosen s) (cond (isMissing (counts s)) 1 0) 0 })
 
 -- which is k × 2^32 at most, and k missing at most
 module _ (counts : ℕ → ℕ) where
@@ -52,11 +57,13 @@ module _ (counts : ℕ → ℕ) where
       by-bool (isMissing (counts k)) (λ e. rw e (omega (arith, missing-most k))) (λ e. rw e (omega (arith, missing-most k)))
 
 module _ (t : Config) (k : ℕ) (readings : ℕ → Reading) where
-  -- one class of the total of what each station gathers by itself
-  pub class-total : (i : ℕ) → i < used t
-      → sumTo joining k (λ s. cells t (gathered t (readings s))) i ≡ sumTo joiningCells k (λ s. cellGathered (getD (readings s .counts) i 0))
-  class-total i l =
-      sum-at joiningCells k (λ s. cells t (gathered t (readings s))) i ∙ sum-ext joiningCells k _ _ (λ s m. cells-gathered t (readings s) i l)
+  -- one class of the total of what each station that passes a test gathers by itself
+  pub class-total : (chosen : ℕ → Bool) (i : ℕ) → i < used t
+      → sumTo joining k (λ s. cond (chosen s) (cells t (gathered t (readings s))) (joining .unit)) i
+      ≡ sumTo joiningCells k (λ s. cond (chosen s) (cellGathered (getD (readings s .counts) i 0)) zeroCell)
+  class-total chosen i l =
+      sum-at joiningCells k _ i
+      ∙ sum-ext joiningCells k _ _ (λ s m. by-bool (chosen s) (λ e. rw e (cells-gathered t (readings s) i l)) (λ e. rw e))
 
   -- what is a part of the total is bounded
   pub part-bounded : k ≤ 64 → ((s i : ℕ) → s < k → i < used t → getD (readings s .counts) i 0 < 2 ^ 32) → (a : Aggregate) (rest : ℕ → Cell)
@@ -67,7 +74,7 @@ module _ (t : Config) (k : ℕ) (readings : ℕ → Reading) where
       ∙ all-below (λ i. cellBounded (cells t a i)) (used t)
       (λ i l.
       let counts : ℕ → ℕ = λ s. getD (readings s .counts) i 0 in
-      let here = ap (λ (f : ℕ → Cell). f i) e ∙ class-total i l ∙ counts-total k counts in
+      let here = ap (λ (f : ℕ → Cell). f i) e ∙ class-total (λ s. true) i l ∙ counts-total k (λ s. true) counts in
       parts-bounded (cells t a i)
       (omega (arith, ap (λ (x : Cell). x .sum) here, sum-most counts k (λ s m. small s i m l)))
       (omega (arith, ap (λ (x : Cell). x .missing) here, missing-most counts k)))

@@ -2,3 +2,4 @@ pub mod Cases
 pub mod Sums
 pub mod Below
 pub mod Digits
+pub mod Hops

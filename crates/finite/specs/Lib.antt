@@ -3,4 +3,5 @@ pub mod Below
 pub mod Numbers
 pub mod Tests
 pub mod Links
+pub mod Hops
 pub mod internal

@@ -1,5 +1,5 @@
 -- A line map by value, and the rules on one that is handed over (document 01, "The line map"; document 02, requests 2 and 5).
-use mathlib.Core.Bool.{cond}
+use mathlib.Core.Bool.{Bool, true, cond}
 use mathlib.Core.List.{List}
 use Prim.Native.Nat.{ℕ, _+_, _*_}
 use lib.ListN.{getD}
@@ -41,10 +41,13 @@ place i j = 8 * i + j
 abbrev pub countAt : Map → ℕ → ℕ → ℕ
 countAt m i j = getD (m .counts) (place i j) 0
 
--- "the sum over heads with a reading, together with how many had none" (document 02, request 1), class by class: "each class reports its
--- own total" (request 2)
-abbrev pub totals : Map → ℕ → Cell
-totals m j =
-    let added = sum (m .k) (λ i. cond (isMissing (countAt m i j)) 0 (countAt m i j)) in
-    let missing = sum (m .k) (λ i. cond (isMissing (countAt m i j)) 1 0) in
+-- "the sum over heads with a reading, together with how many had none" (document 02, request 1), of the stations that pass a test, in class j
+abbrev pub totalsOf : (ℕ → Bool) → Map → ℕ → Cell
+totalsOf chosen m j =
+    let added = sum (m .k) (λ i. cond (chosen i) (cond (isMissing (countAt m i j)) 0 (countAt m i j)) 0) in
+    let missing = sum (m .k) (λ i. cond (chosen i) (cond (isMissing (countAt m i j)) 1 0) 0) in
     record { sum = added; missing = missing }
+
+-- of all stations: "each class reports its own total" (document 02, request 2)
+abbrev pub totals : Map → ℕ → Cell
+totals = totalsOf (λ i. true)

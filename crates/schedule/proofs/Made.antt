@@ -4,7 +4,7 @@
 use mathlib.Core.Path.{_≡_, refl, ap, ap₂, _∙_, subst}
 use mathlib.Core.Bool.{Bool, true, false, cond}
 use mathlib.Core.Logic.{_⊎_, inl, inr}
-use mathlib.Core.List.{List, [], _∷_, _++_, List·Memᴰ, List·Memᴰ·head, List·Memᴰ·tail}
+use mathlib.Core.List.{List, [], _∷_, _++_, map, List·Memᴰ, List·Memᴰ·head, List·Memᴰ·tail}
 use Prim.Native.Nat.{ℕ, zero, suc, _%_, _<_}
 use native.Mathlib.Nat.{mod-lt}
 use native.Mathlib.Omega.{arith}
@@ -142,3 +142,16 @@ module _ {Net : Type 0} (R : Rules Net) where
   calls-make net [] = nothing-made net
   calls-make net (c ∷ cs) =
       makes-append net (callNet R net c) (callMade R net c) (callsMade R (callNet R net c) cs) _ (call-makes net c) (calls-make (callNet R net c) cs)
+
+  -- listed steps, as single ones, are made and lead where they lead
+  pub singles-make : (net : Net) (steps : List Step) → Runs Listed (R .apply) net steps
+      → (callsMade R net (map single steps) ≡ steps) × (callsNet R net (map single steps) ≡ reached (R .apply) net steps)
+  unfolding callsMade callsNet callMade callNet stepOn
+  singles-make net [] r = (refl, refl)
+  singles-make net (s ∷ steps) r =
+      let both = allowed-parts R net s (listed-allowed R net s (r .0 .1)) in
+      let one : stepOn R net s ≡ stepMade s (R .apply net s) = rw (r .0 .0, both .0, both .1) in
+      let rest = singles-make (R .apply net s) steps (r .1) in (
+        ap (λ (o : StepOutcome Net). o .made ++ callsMade R (o .net) (map single steps)) one ∙ ap (λ (l : List Step). s ∷ l) (rest .0),
+        ap (λ (o : StepOutcome Net). callsNet R (o .net) (map single steps)) one ∙ rest .1,
+      )

@@ -2,15 +2,16 @@
 -- carried means all carried (T1), and then the root holds the total (T3). Assumes nothing.
 use mathlib.Core.Path.{_≡_, refl, sym, ap, ap₂, _∙_, subst}
 use mathlib.Core.Bool.{Bool, true, false, not, _&&_, cond, and-false}
-use Prim.Native.Nat.{ℕ, zero, suc, _<_}
+use Prim.Native.Nat.{ℕ, zero, suc, _<_, _≤_}
 use native.Mathlib.Nat.{not-suc-le-zero}
 use native.Mathlib.Omega.{arith}
 use lib.Dec.{eqb}
 use borrow.Author.Tests.{eqb-true, eqb-false, eq-eqb, ne-eqb, not-true}
 use Rattle.finite.proofs.Cases.{clash, by-bool, by-eq, by-sum, and-both, or-cases, or-right, or-left, eqb-self}
 use Rattle.wave.proofs.Carried.{carried-cases, carried-new, carried-other}
-use Rattle.finite.specs.internal.Monoid.{CommMonoid, sumTo}
-use Rattle.finite.proofs.Sums.{except, sum-ext, sum-unit, sum-extract, sum-move}
+use Rattle.finite.specs.Sum.{indicator}
+use Rattle.finite.specs.internal.Monoid.{CommMonoid, addition, sumTo}
+use Rattle.finite.proofs.Sums.{except, sum-ext, sum-unit, sum-extract, sum-move, sum-bump, sum-le, indicator-le, indicators-le}
 use Rattle.wave.specs.internal.Graph.{Graph}
 use Rattle.finite.specs.Links.{Chain, here, link}
 use Rattle.wave.specs.internal.Wave.{Step, message, report, State, answers, fresh, next, Heard, CanSend, CanReport, Weak}
@@ -23,11 +24,14 @@ spent g S i = not (eqb i (g .root)) && S .carried i (S .parent i)
 abbrev pub weight : {A : Type 0} → Graph → CommMonoid A → State A → ℕ → A
 weight g M S i = cond (spent g S i) (M .unit) (S .value i)
 
+-- how many stations are awake
+abbrev pub awakes : {A : Type 0} → Graph → State A → ℕ
+awakes g S = sumTo addition (g .size) (λ x. indicator (S .awake x))
+
 -- what holds of every state that the wave reaches
 pub record Inv {A : Type 0} (g : Graph) (M : CommMonoid A) (counts : ℕ → A) (S : State A) : Type 0 where
-  -- the order of waking, and what the next station to wake gets
+  -- the order of waking: how many were awake before
   pub rank : ℕ → ℕ
-  pub clock : ℕ
   -- a message was carried by a link between awake stations
   pub sent : (i j : ℕ) → S .carried i j ≡ true → (g .adj i j ≡ true) × (S .awake i ≡ true) × (S .awake j ≡ true)
   -- the root is awake and its own parent, which a sleeping station has too
@@ -36,7 +40,7 @@ pub record Inv {A : Type 0} (g : Graph) (M : CommMonoid A) (counts : ℕ → A) 
   pub idle : (x : ℕ) → S .awake x ≡ false → S .parent x ≡ g .root
   -- an awake station has heard from its parent, which woke before it
   pub tree : (j : ℕ) → S .awake j ≡ true → (j ≡ g .root → ⊥) → (S .carried (S .parent j) j ≡ true) × (rank (S .parent j) < rank j)
-  pub low : (j : ℕ) → S .awake j ≡ true → rank j < clock
+  pub low : (j : ℕ) → S .awake j ≡ true → rank j < awakes g S
   -- who has answered has heard from all its neighbours
   pub answered : (i : ℕ) → S .awake i ≡ true → (i ≡ g .root → ⊥) → S .carried i (S .parent i) ≡ true → Heard g S i
   -- the values of the root and of all who have not answered join to the total, of which each value is a part
@@ -54,17 +58,24 @@ pub answers-is : {A : Type 0} (g : Graph) (S : State A) (i j : ℕ) → (i ≡ g
 answers-is g S i j h e = rw (ne-eqb i (g .root) h, eq-eqb (S .parent i) j e)
 
 module _ {A : Type 0} (g : Graph) (M : CommMonoid A) (counts : ℕ → A) where
+  -- the root is awake
+  root-counts : 0 < awakes g (fresh g counts)
+  unfolding indicator
+  root-counts =
+      let r = g .root in
+      let one : indicator (eqb r r) ≡ 1 = rw (eqb-self r) in
+      omega (arith, one, sum-extract addition (g .size) r (λ x. indicator (eqb x r)) (g .root-in))
+
   pub fresh-inv : Inv g M counts (fresh g counts)
   fresh-inv =
       record {
         rank = λ i. 0;
-        clock = 1;
         sent = λ i j e. clash e refl;
         root-up = eqb-self (g .root);
         top = refl;
         idle = λ x e. refl;
         tree = λ j e n. absurd (n (eqb-true j (g .root) e));
-        low = λ j e. omega arith;
+        low = λ j e. root-counts;
         answered = λ i e n c. clash c refl;
         conserved = sum-ext M (g .size) _ _ (λ i l. rw and-false);
         parts = λ i l. (sumTo M (g .size) (except M i counts), sym (sum-extract M (g .size) i counts l));
@@ -92,6 +103,10 @@ module _ {A : Type 0} (g : Graph) (M : CommMonoid A) (counts : ℕ → A) where
     pub all-carried : CanReport g S → (i j : ℕ) → g .adj i j ≡ true → S .carried i j ≡ true
     all-carried r i j e =
         heard-up r (suc (I .rank j)) j (omega arith) (chain-up r j (g .joined j (g .within i j e .1))) i e
+
+    -- ranks are below k, as no more stations are awake than there are
+    pub rank-below : (j : ℕ) → S .awake j ≡ true → I .rank j < g .size
+    rank-below j e = omega (arith, I .low j e, indicators-le (g .size) (S .awake))
 
     pub asleep-silent : (x y : ℕ) → S .awake x ≡ false → S .carried x y ≡ false
     asleep-silent x y e = by-bool (S .carried x y) (λ c. clash (I .sent x y c .1) e) (λ c. c)
@@ -124,7 +139,7 @@ module _ {A : Type 0} (g : Graph) (M : CommMonoid A) (counts : ℕ → A) where
       woken e = rw (eqb-self j, e)
 
       abbrev rank′ : ℕ → ℕ
-      rank′ x = cond (eqb x j && not (S .awake j)) (I .clock) (I .rank x)
+      rank′ x = cond (eqb x j && not (S .awake j)) (awakes g S) (I .rank x)
 
       pub parent-old : (x : ℕ) → S .awake x ≡ true → S′ .parent x ≡ S .parent x
       parent-old x e = rw (waking x e)
@@ -135,7 +150,7 @@ module _ {A : Type 0} (g : Graph) (M : CommMonoid A) (counts : ℕ → A) where
       rank-old : (x : ℕ) → S .awake x ≡ true → rank′ x ≡ I .rank x
       rank-old x e = rw (waking x e)
 
-      rank-new : S .awake j ≡ false → rank′ j ≡ I .clock
+      rank-new : S .awake j ≡ false → rank′ j ≡ awakes g S
       rank-new e = rw (woken e)
 
       keep-sent : (a b : ℕ) → S′ .carried a b ≡ true → (g .adj a b ≡ true) × (S′ .awake a ≡ true) × (S′ .awake b ≡ true)
@@ -161,13 +176,23 @@ module _ {A : Type 0} (g : Graph) (M : CommMonoid A) (counts : ℕ → A) where
             rw (q, parent-new down-j, rank-old i (w .up), rank-new down-j) (I .low i (w .up)),
           ))
 
-      keep-low : (x : ℕ) → S′ .awake x ≡ true → rank′ x < suc (I .clock)
+      -- one more is awake where j is woken
+      awakes-new : S .awake j ≡ false → awakes g S′ ≡ suc (awakes g S)
+      unfolding indicator
+      awakes-new e =
+          sum-bump (g .size) j _ _ (g .within i j (w .adjacent) .1) (rw (eqb-self j, e)) (λ x n. rw (ne-eqb x j n))
+
+      awakes-grow : awakes g S ≤ awakes g S′
+      awakes-grow = sum-le (g .size) _ _ (λ x l. indicator-le (S .awake x) (S′ .awake x) (awake-old x))
+
+      keep-low : (x : ℕ) → S′ .awake x ≡ true → rank′ x < awakes g S′
       keep-low x e =
           by-bool (S .awake x)
-          (λ up. rw (rank-old x up) (omega (arith, I .low x up)))
+          (λ up. omega (arith, rank-old x up, I .low x up, awakes-grow))
           (λ down.
           let q = awake-cases x e down in
-          rw (q, rank-new (ap (S .awake) (sym q) ∙ down)) (omega arith))
+          let down-j = ap (S .awake) (sym q) ∙ down in
+          rw q (omega (arith, rank-new down-j, awakes-new down-j)))
 
       keep-answered : (x : ℕ) → S′ .awake x ≡ true → (x ≡ g .root → ⊥) → S′ .carried x (S′ .parent x) ≡ true → Heard g S′ x
       keep-answered x e n c h a =
@@ -269,7 +294,6 @@ module _ {A : Type 0} (g : Graph) (M : CommMonoid A) (counts : ℕ → A) where
       keep-message =
           record {
             rank = rank′;
-            clock = suc (I .clock);
             sent = keep-sent;
             root-up = awake-old (g .root) (I .root-up);
             top = parent-old (g .root) (I .root-up) ∙ I .top;
@@ -286,7 +310,6 @@ module _ {A : Type 0} (g : Graph) (M : CommMonoid A) (counts : ℕ → A) where
     keep-report r =
         record {
           rank = I .rank;
-          clock = I .clock;
           sent = I .sent;
           root-up = I .root-up;
           top = I .top;
@@ -304,7 +327,7 @@ module _ {A : Type 0} (g : Graph) (M : CommMonoid A) (counts : ℕ → A) where
   keep S report I w = keep-report S I w
 
   module _ (S : State A) (I : Inv g M counts S) where
-    all-awake : ((i j : ℕ) → g .adj i j ≡ true → S .carried i j ≡ true) → (i : ℕ) → Chain (g .adj) (g .root) i → S .awake i ≡ true
+    pub all-awake : ((i j : ℕ) → g .adj i j ≡ true → S .carried i j ≡ true) → (i : ℕ) → Chain (g .adj) (g .root) i → S .awake i ≡ true
     all-awake all i here = I .root-up
     all-awake all i (link {j = j} e c) = I .sent i j (all i j e) .1
 

@@ -5,3 +5,7 @@ pub mod Progress
 pub mod Trace
 pub mod Refinement
 pub mod Theorem
+pub mod Gathering
+pub mod Tree
+pub mod Lasting
+pub mod TreeTheorem

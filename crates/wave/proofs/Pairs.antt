@@ -5,7 +5,7 @@ use Prim.Native.Nat.{ℕ, zero, suc, _*_, _<_, _≤_}
 use native.Mathlib.Omega.{arith}
 use Rattle.finite.specs.Sum.{foldTo, indicator}
 use Rattle.finite.specs.internal.Monoid.{addition, sumTo}
-use Rattle.finite.proofs.Sums.{sum-ext, sum-le, sum-unit, sum-bump, sum-add, indicator-le}
+use Rattle.finite.proofs.Sums.{sum-ext, sum-le, sum-unit, sum-bump, sum-join, indicator-le}
 use Rattle.finite.specs.Links.{links}
 
 -- how many ordered pairs of numbers below k pass a test
@@ -36,4 +36,4 @@ unfolding pairs links foldTo indicator
 pairs-links zero p s n = refl
 pairs-links (suc k) p s n =
     let same : sumTo addition k (λ i. indicator (p i k)) ≡ sumTo addition k (λ j. indicator (p k j)) = sum-ext addition k _ _ (λ i l. ap indicator (s i k)) in
-    omega (arith, pairs-links k p s n, sum-add k (λ i. sumTo addition k (λ j. indicator (p i j))) (λ i. indicator (p i k)), ap indicator (n k))
+    omega (arith, pairs-links k p s n, sum-join addition k (λ i. sumTo addition k (λ j. indicator (p i j))) (λ i. indicator (p i k)), ap indicator (n k))

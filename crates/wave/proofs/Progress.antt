@@ -10,7 +10,7 @@ use Rattle.finite.specs.internal.Monoid.{CommMonoid}
 use Rattle.wave.specs.internal.Graph.{Graph}
 use Rattle.finite.specs.Links.{Chain, here, link}
 use Rattle.wave.specs.internal.Wave.{Step, message, report, State, answers, Strong}
-use Rattle.wave.proofs.Invariant.{Inv, answers-both}
+use Rattle.wave.proofs.Invariant.{Inv, answers-both, rank-below}
 
 module _ {A : Type 0} (g : Graph) (M : CommMonoid A) (counts : ℕ → A) (S : State A) (I : Inv g M counts S) where
   -- a start that may be sent
@@ -57,9 +57,9 @@ module _ {A : Type 0} (g : Graph) (M : CommMonoid A) (counts : ℕ → A) (S : S
     station-up i j e = all-up i (g .joined i (g .within i j e .0))
 
     -- the pair (i, j) is not carried: i or some station below it can answer
-    deepest : (n i j : ℕ) → g .adj i j ≡ true → S .carried i j ≡ false → I .clock ≤ I .rank i + n
+    deepest : (n i j : ℕ) → g .adj i j ≡ true → S .carried i j ≡ false → g .size ≤ I .rank i + n
         → (a : ℕ) × (b : ℕ) × Strong g S (message a b)
-    deepest zero i j e c l = absurd (omega (arith, I .low i (station-up i j e)))
+    deepest zero i j e c l = absurd (omega (arith, rank-below g M counts S I i (station-up i j e)))
     deepest (suc n) i j e c l =
         let up = station-up i j e in
         let is-answer : answers g S i j ≡ true = by-bool (answers g S i j) (λ a. a) (λ a. clash (none i j e up a) c) in
@@ -93,7 +93,7 @@ module _ {A : Type 0} (g : Graph) (M : CommMonoid A) (counts : ℕ → A) (S : S
       (find (g .size) (λ a. (b : ℕ) × (b < g .size) × Start a b) (λ a. (b : ℕ) → b < g .size → NoStart a b)
       (λ a. find (g .size) (Start a) (NoStart a) (start? a)))
       (λ f. (f .0, f .2 .0, send (f .0) (f .2 .0) (f .2 .2)))
-      (λ f. deepest (λ a b d. let w = g .within a b d in f a (w .0) b (w .1) d) (I .clock) i j e c (omega arith))
+      (λ f. deepest (λ a b d. let w = g .within a b d in f a (w .0) b (w .1) d) (g .size) i j e c (omega arith))
 
   -- T2: where all are, and there was no report, there may be one
   pub some-report : ((i j : ℕ) → g .adj i j ≡ true → S .carried i j ≡ true) → S .reported ≡ false → Strong g S report

@@ -80,7 +80,7 @@ module _ {A : Type 0} (g : Graph) (M : CommMonoid A) (counts : ℕ → A) where
       }
 
   module _ (K : Refinement g M counts) where
-    stands : (n : K .Net) (S : State A) (ms : List (K .Move)) → K .Stands n S → Inv g M counts S → Runs (K .Allowed) (K .make) n ms
+    pub stands : (n : K .Net) (S : State A) (ms : List (K .Move)) → K .Stands n S → Inv g M counts S → Runs (K .Allowed) (K .make) n ms
         → Runs (Weak g) (next g M) S (map (K .label) ms) × K .Stands (reached (K .make) n ms) (reached (next g M) S (map (K .label) ms))
     stands n S [] st I r = (tt, st)
     stands n S (m ∷ ms) st I r =

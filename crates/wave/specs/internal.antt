@@ -2,3 +2,4 @@
 pub mod Graph
 pub mod Wave
 pub mod Claim
+pub mod Tree

@@ -2,7 +2,7 @@
 //! and their cases must meet every refusal.
 
 use conformance::calls::Model;
-use conformance::compare::{map, net, program, station};
+use conformance::compare::{map, net, program, station, tree};
 use conformance::edges;
 use conformance::gen::aggregate;
 use conformance::gen::net::any;
@@ -12,6 +12,7 @@ use conformance::model::meet::{Meet, ANSWER, PASS, REPORT, WAKE};
 use conformance::model::net::{Net, Step};
 use conformance::model::set;
 use conformance::model::station::{ACTIVE, ASLEEP, FINISHED};
+use conformance::model::text::output;
 use conformance::rng::for_cases;
 
 #[test]
@@ -31,6 +32,13 @@ fn demand_3_holds_for_stations_with_mail() {
 #[test]
 fn both_kinds_report_the_same() {
     net::kinds_agree::<Meet, Mail>(&Model, &Model, 200);
+}
+
+#[test]
+fn parents_say_what_went_up() {
+    tree::waves::<Meet>(&Model, 300);
+    tree::waves::<Mail>(&Model, 300);
+    tree::lines(|input| output(input).into_bytes(), 300);
 }
 
 #[test]

@@ -1,6 +1,7 @@
 //! The built program against the model, and on streams that fail. TALLY_PROGRAM says where it is, if not in target/bin.
 
 use conformance::compare::program::{inputs, length_limit, run, Left, Program};
+use conformance::compare::tree;
 use conformance::edges;
 use conformance::model::map::{stored, Map, LOT_LIMIT};
 use conformance::model::text::output;
@@ -109,6 +110,13 @@ fn unread(command: &mut Command) -> (ExitStatus, String) {
     drop(child.stdin.take());
     let left = child.wait_with_output().expect("the program ends");
     (left.status, String::from_utf8(left.stderr).expect("text"))
+}
+
+/// The wakes tell the parents, and these what the answers brought.
+#[test]
+fn tree_behind_the_lines() {
+    let program = tally();
+    tree::lines(|input| program.output(input, input.len()), 300);
 }
 
 /// The signal ends the program; where it is ignored the write fails.

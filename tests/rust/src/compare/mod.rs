@@ -4,6 +4,7 @@ pub mod map;
 pub mod net;
 pub mod program;
 pub mod station;
+pub mod tree;
 
 use crate::model::aggregate::{is_class_count, Aggregate, MOST_MISSING, SUM_LIMIT};
 use crate::model::MOST_CLASSES;

@@ -193,6 +193,13 @@ impl Net for Mail {
         }
     }
 
+    fn brought(&self, step: Step) -> Option<Aggregate> {
+        match self.outboxes[usize::from(step.sender)].mailbox(step.receiver) {
+            Some(Message::Answer(gathered)) if step.kind == DELIVERY => Some(gathered.given(self.config.classes)),
+            _ => None,
+        }
+    }
+
     /// What stations not finished hold, and what is under way.
     fn outstanding(&self) -> Aggregate {
         let mut total = unfinished_total(self.config, &self.stations);

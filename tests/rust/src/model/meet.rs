@@ -75,6 +75,10 @@ impl Net for Meet {
         }
     }
 
+    fn brought(&self, step: Step) -> Option<Aggregate> {
+        (step.kind == ANSWER).then(|| self.stations[usize::from(step.sender)].held.given(self.config.classes))
+    }
+
     fn outstanding(&self) -> Aggregate {
         unfinished_total(self.config, &self.stations)
     }

@@ -1,4 +1,5 @@
-//! The whole product after documents 01 and 02: maps, one station, both kinds of net, the program, and the claims of demand 3.
+//! The whole product after documents 01 and 02: maps, one station, both kinds of net, the program, the claims of demand 3, and the
+//! tree behind a total.
 
 pub mod aggregate;
 pub mod demand;
@@ -10,6 +11,7 @@ pub mod refusal;
 pub mod set;
 pub mod station;
 pub mod text;
+pub mod tree;
 
 /// Places in a map or a net: k is at most this.
 pub const PLACES: usize = 64;

@@ -70,6 +70,9 @@ pub trait Net: Clone + PartialEq + Debug {
     /// Makes an allowed step.
     fn make(&mut self, step: Step);
 
+    /// What a step allowed here brings its receiver, where it carries an answer.
+    fn brought(&self, step: Step) -> Option<Aggregate>;
+
     /// What is not yet handed on: it adds up to the map's total before the report.
     fn outstanding(&self) -> Aggregate;
 

@@ -104,12 +104,10 @@ impl<N: Net> faulty::Fault<N> for Fault {
 
 #[test]
 fn stations_that_meet() {
-    faults().spare_the_faultless::<Meet>();
-    faults().are_caught::<Meet>();
+    faults().are_told_apart::<Meet>();
 }
 
 #[test]
 fn stations_with_mail() {
-    faults().spare_the_faultless::<Mail>();
-    faults().are_caught::<Mail>();
+    faults().are_told_apart::<Mail>();
 }

@@ -109,15 +109,13 @@ impl<N: Net> faulty::Fault<N> for Fault {
 
 #[test]
 fn stations_that_meet() {
-    faults().spare_the_faultless::<Meet>();
-    faults().are_caught::<Meet>();
+    faults().are_told_apart::<Meet>();
 }
 
 #[test]
 fn stations_with_mail() {
     let with_mail = vec![Fault::FirstStartsAtZero];
-    faults().spare_the_faultless::<Mail>();
-    faults().are_caught::<Mail>();
+    faults().are_told_apart::<Mail>();
     Faults { of_steps: vec![], of_openings: with_mail.clone(), against_demand_3: with_mail, ..faults() }
         .are_caught::<Mail>();
 }

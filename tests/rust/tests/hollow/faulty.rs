@@ -89,6 +89,10 @@ impl<N: Net, F: Fault<N>> Net for Faulty<N, F> {
         self.fault.make(&mut self.net, step);
     }
 
+    fn brought(&self, step: Step) -> Option<Aggregate> {
+        self.net.brought(step)
+    }
+
     fn outstanding(&self) -> Aggregate {
         self.net.outstanding()
     }
@@ -163,5 +167,13 @@ impl<F> Faults<F> {
         for &fault in &self.against_demand_3 {
             assert!(is_caught(move || demand_3::<N>(&Under(fault), lists)), "{fault:?} passes demand 3");
         }
+    }
+
+    pub fn are_told_apart<N: Sample>(&self)
+    where
+        F: Fault<N> + UnwindSafe,
+    {
+        self.spare_the_faultless::<N>();
+        self.are_caught::<N>();
     }
 }

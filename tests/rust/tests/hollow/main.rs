@@ -8,6 +8,7 @@ mod mail;
 mod map;
 mod meet;
 mod station;
+mod tree;
 
 use std::panic::{catch_unwind, UnwindSafe};
 

@@ -1,0 +1,5 @@
+pub mod Kind
+pub mod Rendezvous
+pub mod Mailbox
+pub mod Example
+pub mod Tree

@@ -1,0 +1,1 @@
+// The tree behind a total, in both kinds of net. Definitions and proofs only.
