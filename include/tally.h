@@ -25,9 +25,15 @@ extern "C" {
 
 enum { TALLY_STATIONS = 64, TALLY_CLASSES = 8 };
 
-/* Bytes of stack that no call takes more than, its arguments included: events of a station, calls on maps, on stations that meet, and on
-   stations with mail. */
-enum { TALLY_PROCESS_STACK = 1024, TALLY_MAP_STACK = 16384, TALLY_RENDEZVOUS_STACK = 8192, TALLY_MAILBOX_STACK = 8192 };
+/* Bytes of stack that no call takes more than, its arguments included: events of a station, calls on maps, on stations that meet, for a
+   sheet, and on stations with mail. */
+enum {
+    TALLY_PROCESS_STACK = 1024,
+    TALLY_MAP_STACK = 16384,
+    TALLY_RENDEZVOUS_STACK = 8192,
+    TALLY_SHEET_STACK = 16384,
+    TALLY_MAILBOX_STACK = 8192
+};
 
 /* ---- one station --------------------------------------------------------------------------------------------------------------------
 
@@ -188,6 +194,25 @@ uint64_t tally_rendezvous_draw(struct tally_rendezvous *net, uint16_t d);
 /* The steps that the draws pick, until they are used up or the net is at rest. A run that starts outside the form or leaves it stops with
    11, and has left in *net the net that it reached. */
 struct tally_run tally_rendezvous_run(struct tally_rendezvous *net, const uint16_t *draws, size_t count);
+
+/* ---- the grower sheet ----------------------------------------------------------------------------------------------------------------
+
+   A sheet of one reported lot, in lines of exactly 40 bytes and a line feed, numbers right-aligned, blanks in all other columns: the lot in
+   columns 1 to 15; then for each station, and in it for each class, rising, the station (2 columns), a blank, the class counted from 1 (1), a
+   blank, the count (10), ten hyphens where it is TALLY_NO_READING; last for each class the letter T, two blanks, the class (1), a blank, the
+   desk's sum (12), a blank, its missing number (2). */
+enum { TALLY_SHEET_LINE = 41 };
+
+/* The bytes of a map's sheet, and the most that one has. */
+#define TALLY_SHEET_LENGTH(k, classes) ((size_t)TALLY_SHEET_LINE * (1 + (size_t)(k) * (classes) + (classes)))
+enum { TALLY_SHEET_MOST = TALLY_SHEET_LINE * (1 + TALLY_STATIONS * TALLY_CLASSES + TALLY_CLASSES) };
+
+TALLY_ASSERT(TALLY_SHEET_MOST == 21361);
+
+/* Lays the sheet of a map and its net out, from the first byte: 0 with the number of bytes filled, or the numbers of tally_map_write but 15 for
+   the map, 11 for the net, 20 (the net's k, class count or desk is not the map's), 21 (the desk is not finished, or a sum has more than 12 digits),
+   15 with the length needed, which leave the bytes. What stands past the sheet is left. */
+uint64_t tally_sheet(struct tally_map map, const struct tally_rendezvous *net, uint8_t *bytes, size_t length);
 
 /* ---- stations with mail -------------------------------------------------------------------------------------------------------------
 

@@ -10,6 +10,7 @@ use conformance::ffi::net::Exports;
 use conformance::model::map::{stored, Map};
 use conformance::model::meet::Meet;
 use conformance::model::net::{Net as Model, Step};
+use conformance::model::sheet::length;
 use conformance::model::station::Station;
 use shapes::{clique, draws, SHAPES};
 use std::hint::black_box;
@@ -87,6 +88,7 @@ fn main() {
         println!("Classes: {classes}");
         maps(classes);
         nets::<Meet, Meet>("Stations that meet", classes);
+        sheet(classes);
         #[cfg(feature = "mail")]
         nets::<conformance::model::mail::Mail, by_hand::mail::Mail>("Stations with mail", classes);
     }
@@ -127,6 +129,25 @@ fn maps_agree(map: &Map, bytes: &[u8]) {
     library::write(map.lay_out(), &mut written);
     by_hand::map::write(map, &mut written_by_hand).expect("the map is accepted");
     assert_eq!((&written[..], &written_by_hand[..]), (bytes, bytes));
+}
+
+/// The sheet of 64 stations, all linked, after their report.
+fn sheet(classes: u8) {
+    let map = clique(64, classes);
+    let mut net = by_hand::meet::fresh(&map);
+    Net::run(&mut net, &draws(&map));
+    let (laid_out, line_of_net) = (map.lay_out(), net.lay_out());
+    let blank = vec![0; length(&map)];
+    println!("A sheet of 64 stations, {} bytes", blank.len());
+    let library = Timed::new(&blank, |lent| library::sheet(black_box(laid_out), black_box(&line_of_net), lent));
+    let by_hand = Timed::new(&blank, |lent| {
+        by_hand::sheet::lay_out(black_box(&map), black_box(&net), lent).expect("the lot is reported");
+    });
+    println!("{}\n", line("sheet", times(library, by_hand), None));
+    let (mut given, mut given_by_hand) = (blank.clone(), blank);
+    library::sheet(laid_out, &line_of_net, &mut given);
+    by_hand::sheet::lay_out(&map, &net, &mut given_by_hand).expect("the lot is reported");
+    assert!(given == given_by_hand, "the two lay out different sheets");
 }
 
 /// One kind of net: a draw and a step on 64 stations, then whole runs.

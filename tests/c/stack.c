@@ -37,6 +37,7 @@ static struct tally_line line;
 static struct tally_mail mail;
 static struct tally_process process;
 static uint8_t bytes[(8 + 4 * TALLY_CLASSES) * TALLY_STATIONS + 16];
+static uint8_t lines[TALLY_SHEET_MOST];
 static uint16_t draws[MOST_DRAWS];
 static volatile uint64_t answer;
 
@@ -53,6 +54,7 @@ static void meet_fresh(void) { answer = tally_rendezvous_fresh(&net, map); }
 static void meet_step(void) { answer = tally_rendezvous_step(&net, TALLY_WAKE, 0, 1); }
 static void meet_draw(void) { answer = tally_rendezvous_draw(&net, 9640); }
 static void meet_run(void) { answer = tally_rendezvous_run(&net, draws, MOST_DRAWS).answer; }
+static void sheet(void) { answer = tally_sheet(map, &net, lines, sizeof lines); }
 static void mail_fresh(void) { answer = tally_mailbox_fresh(&line, &mail, map); }
 static void mail_step(void) { answer = tally_mailbox_step(&line, &mail, TALLY_DELIVERY, 0, 1); }
 static void mail_draw(void) { answer = tally_mailbox_draw(&line, &mail, 9640); }
@@ -146,6 +148,9 @@ static void nets(void)
     measure("tally_mailbox_draw", TALLY_MAILBOX_STACK, mail_draw, spoil_line);
     fresh_nets();
     measure("tally_rendezvous_run", TALLY_RENDEZVOUS_STACK, meet_run, spoil_net);
+    fresh_nets();
+    meet_run();
+    measure("tally_sheet", TALLY_SHEET_STACK, sheet, spoil_net);
     measure("tally_mailbox_run", TALLY_MAILBOX_STACK, mail_run, spoil_line);
 }
 

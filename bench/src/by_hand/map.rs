@@ -46,7 +46,8 @@ pub fn read(bytes: &[u8], map: &mut Map) -> Result<(), Refusal> {
     Ok(())
 }
 
-pub fn write(map: &Map, buffer: &mut [u8]) -> Result<(), Refusal> {
+/// What `write` refuses but a short buffer.
+pub fn accept_for_writing(map: &Map) -> Result<(), Refusal> {
     if !(1..=8).contains(&map.classes) {
         return Err((2, 0));
     }
@@ -56,11 +57,16 @@ pub fn write(map: &Map, buffer: &mut [u8]) -> Result<(), Refusal> {
     if map.desk >= map.k {
         return Err((19, 0));
     }
-    let (k, classes) = (usize::from(map.k), usize::from(map.classes));
-    accept(map.desk, &map.neighbours[..k])?;
+    accept(map.desk, &map.neighbours[..map.k.into()])?;
     if map.lot >= 1 << 48 {
         return Err((18, 0));
     }
+    Ok(())
+}
+
+pub fn write(map: &Map, buffer: &mut [u8]) -> Result<(), Refusal> {
+    accept_for_writing(map)?;
+    let (k, classes) = (usize::from(map.k), usize::from(map.classes));
     let row_length = 4 * classes + SET;
     let needed = row_length * k + TRAILER;
     let Some(filled) = buffer.get_mut(..needed) else { return Err((15, needed as u32)) };

@@ -5,6 +5,7 @@
 pub mod mail;
 pub mod map;
 pub mod meet;
+pub mod sheet;
 mod stations;
 
 /// A refusal's number, and the station or the length that comes with it.

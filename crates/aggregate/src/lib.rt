@@ -42,7 +42,7 @@ pub struct Joined {
 const MOST_CLASSES: usize = 8;
 
 // The count of a head without a reading.
-const NO_READING: u32 = 4294967295;
+pub const NO_READING: u32 = 4294967295;
 
 // Sums of well-formed stations are below this.
 const SUM_LIMIT: u64 = 1 << 62;

@@ -4,4 +4,5 @@ mod mailbox_net;
 mod map;
 mod process;
 mod rendezvous_net;
+mod sheets;
 mod steps;

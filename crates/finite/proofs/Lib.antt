@@ -3,3 +3,4 @@ pub mod Sums
 pub mod Below
 pub mod Digits
 pub mod Hops
+pub mod Stores

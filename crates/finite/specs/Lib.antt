@@ -4,4 +4,5 @@ pub mod Numbers
 pub mod Tests
 pub mod Links
 pub mod Hops
+pub mod Stores
 pub mod internal

@@ -143,6 +143,13 @@ pub fn links(m: Map) -> LinksAnswer
     topology::links(root, m.k, &sets)
 }
 
+// Whether a lot fits its 48 bits.
+pub fn is_storable(lot: u64) -> bool
+    ensures { λ r. ⌜ r ≡ Writing.isStorable lot ⌝ }
+{
+    lot < LOT_LIMIT
+}
+
 // The last map in s.
 pub fn read(s: &[u8]) -> MapRead
     ensures { λ r. ⌜ Reading.readOutcomeOf r ≡ Reading.reading (now (s .entry)) ⌝ }
@@ -180,7 +187,7 @@ pub fn write(m: Map, buf: &mut [u8]) -> WriteAnswer
     if let Verdict::Refused(fault) = verdict {
         return WriteAnswer::Refused(WriteFault::Unfit(fault));
     }
-    if LOT_LIMIT <= m.lot {
+    if !is_storable(m.lot) {
         return WriteAnswer::Refused(WriteFault::Lot);
     }
     let need = stored_length(m.classes, m.k);

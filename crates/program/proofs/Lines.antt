@@ -7,8 +7,9 @@ use native.Mathlib.Omega.{arith}
 use lib.ListN.{length, take, drop, length-append, length-drop, drop-of-length-le}
 use lib.Seq.{take-all, take-add, drop-drop, sets-eq}
 use borrow.Author.Tests.{le-leb}
-use Rattle.text.specs.Text.{lineRoom, textIn, over}
-use Rattle.text.specs.internal.Putting.{Put}
+use Rattle.text.specs.Text.{lineRoom, textIn}
+use Rattle.finite.specs.Stores.{over}
+use Rattle.finite.specs.internal.Putting.{Put}
 use Rattle.text.proofs.Lines.{text-le}
 use Rattle.program.specs.declared.Shown.{Shown}
 use Rattle.program.specs.Output.{shownText}

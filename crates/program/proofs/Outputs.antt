@@ -7,9 +7,9 @@ use native.Mathlib.Omega.{arith}
 use lib.ListN.{length, take, drop, length-append}
 use lib.Seq.{take-append-seam}
 use borrow.Author.Tests.{lt-leb, le-leb}
-use Rattle.text.specs.Text.{over}
-use Rattle.text.specs.internal.Putting.{Put}
-use Rattle.text.proofs.Stores.{put-front}
+use Rattle.finite.specs.Stores.{over}
+use Rattle.finite.specs.internal.Putting.{Put}
+use Rattle.finite.proofs.Stores.{put-front}
 use Rattle.program.specs.declared.Shown.{Shown}
 use Rattle.program.specs.Output.{shownText, linesOf, outputOf, outputRoom, outputIn}
 use Rattle.program.specs.internal.Filling.{Filled, bytesOf}

@@ -26,8 +26,8 @@ use Rattle.rendezvous.specs.Rules.{rules}
 use Rattle.rendezvous.specs.Opening as meet
 use Rattle.rendezvous.proofs.Laws.{places}
 use Rattle.text.specs.Text.{lineRoom}
-use Rattle.text.specs.internal.Putting.{Put}
-use Rattle.text.proofs.Stores.{put-then}
+use Rattle.finite.specs.internal.Putting.{Put}
+use Rattle.finite.proofs.Stores.{put-then}
 use Rattle.opening.specs.Opening.{inputOpening, drawAt, drawsIn}
 use Rattle.program.specs.declared.Shown.{Shown}
 use Rattle.program.specs.Output.{shownText, stepShown, stepLines, closingLine, lotLines, linesOf}

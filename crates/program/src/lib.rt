@@ -18,8 +18,9 @@ ghost use lib.ListN.{length};
 ghost use Rattle.topology.specs.Answer.{accepted};
 ghost use Rattle.linemap.specs.Maps.{acceptance, linkCount};
 ghost use Rattle.rendezvous.specs.Net.{netIn};
-ghost use Rattle.text.specs.Text.{lineRoom, over};
-ghost use Rattle.text.specs.internal.Putting.{Put};
+ghost use Rattle.text.specs.Text.{lineRoom};
+ghost use Rattle.finite.specs.Stores.{over};
+ghost use Rattle.finite.specs.internal.Putting.{Put};
 ghost use Rattle.program.specs.Output.{shownText, stepLine, stepShown, plain, closingLine, outputRoom, outputIn};
 ghost use Rattle.program.specs.internal.Filling.{Opens, Roomy, StepsPut, Filled};
 

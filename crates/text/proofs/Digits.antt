@@ -3,14 +3,16 @@
 use mathlib.Core.Path.{_≡_, refl, ap, _∙_}
 use mathlib.Core.Bool.{Bool, true, false, cond}
 use mathlib.Core.List.{List, _++_}
-use Prim.Native.Nat.{ℕ, zero, suc, _+_, _-_, _/_, _%_, _≤_, _<_}
+use Prim.Native.Nat.{ℕ, zero, suc, _+_, _-_, _/_, _%_, _^_, _≤_, _<_}
+use native.Mathlib.Nat.{pow-suc}
 use native.Mathlib.Omega.{arith}
 use lib.Dec.{ltb}
 use lib.ListN.{length, set, length-append}
 use borrow.Author.Tests.{lt-ltb, le-ltb}
+use Rattle.finite.proofs.Cases.{by-bool}
 use Rattle.text.specs.Text.{digit, digits}
-use Rattle.text.specs.internal.Putting.{Room, Put}
-use Rattle.text.proofs.Stores.{put-then, put-one}
+use Rattle.finite.specs.internal.Putting.{Room, Put}
+use Rattle.finite.proofs.Stores.{put-then, put-one}
 
 -- the digits of a number, as the tests of the code go
 one-digit : (f n : ℕ) → 0 < f → n < 10 → digits f n ≡ digit n
@@ -58,3 +60,14 @@ digits-le (suc f) n = go (digits-le f (n / 10)) (ltb n 10)
     go : length (digits f (n / 10)) ≤ f → (b : Bool) → length (cond b (digit n) (digits f (n / 10) ++ digit (n % 10))) ≤ suc f
     go h true = omega arith
     go h false = rw length-append (omega arith)
+
+-- a number below 10 ^ w has at most w digits
+pub digits-few : (f w n : ℕ) → n < 10 ^ suc w → length (digits f n) ≤ suc w
+unfolding digits
+digits-few zero w n low = omega arith
+digits-few (suc f) zero n low = let one : n < 10 = omega (arith, low) in rw (lt-ltb n 10 one) (omega arith)
+digits-few (suc f) (suc w) n low =
+    let less : n / 10 < 10 ^ suc w = omega (arith, low, pow-suc 10 (suc w)) in
+    by-bool (ltb n 10)
+    (λ one. rw one (omega arith))
+    (λ more. rw (more, length-append) (omega (arith, digits-few f w (n / 10) less)))

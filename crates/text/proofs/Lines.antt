@@ -13,10 +13,11 @@ use Rattle.aggregate.specs.Aggregate.{used, cell}
 use Rattle.text.specs.declared.Line.{Line}
 use Rattle.text.specs.declared.Line.the-variants.{Wake, Pass, Answer, Report, Closing, Refused, RefusedStation}
 use Rattle.text.specs.Ascii.{ascii}
-use Rattle.text.specs.Text.{item, cellText, aggregateText, wordsOf, textOf, lineRoom, textIn, over}
-use Rattle.text.specs.internal.Putting.{Room, Put}
+use Rattle.text.specs.Text.{item, cellText, aggregateText, wordsOf, textOf, lineRoom, textIn}
+use Rattle.finite.specs.Stores.{over}
+use Rattle.finite.specs.internal.Putting.{Room, Put}
 use Rattle.text.proofs.Digits.{digits-le}
-use Rattle.text.proofs.Stores.{put-front}
+use Rattle.finite.proofs.Stores.{put-front}
 
 item-le : (word : List ℕ) (n : ℕ) → length (item word n) ≤ length word + 20
 unfolding item

@@ -1,10 +1,10 @@
 -- The lines of the program's output, byte by byte (document 01, "The program").
 use mathlib.Core.Bool.{cond}
 use mathlib.Core.List.{List, [], _∷_, _++_}
-use Prim.Native.Nat.{ℕ, zero, suc, _+_, _/_, _%_}
+use Prim.Native.Nat.{ℕ, zero, suc, _+_, _-_, _/_, _%_}
 use Prim.Native.Char.{code}
 use lib.Dec.{ltb, leb}
-use lib.ListN.{length, drop}
+use lib.ListN.{length, replicate}
 use Rattle.finite.specs.Below.{each}
 use Rattle.aggregate.specs.declared.Config.{Config}
 use Rattle.aggregate.specs.declared.Cell.{Cell}
@@ -22,6 +22,10 @@ digit n = (code "0" + n) ∷ []
 unfoldable pub digits : ℕ → ℕ → List ℕ
 digits zero n = []
 digits (suc f) n = cond (ltb n 10) (digit n) (digits f (n / 10) ++ digit (n % 10))
+
+-- a text "right-aligned in the columns given; blanks fill the line" (document 02, request 7): in w columns
+unfoldable pub padded : ℕ → List ℕ → List ℕ
+padded w text = replicate (w - length text) (code " ") ++ text
 
 -- a word, then a number; a number of 64 bits has at most 20 digits
 unfoldable pub item : List ℕ → ℕ → List ℕ
@@ -59,7 +63,3 @@ lineRoom = 400
 -- what is put into a buffer of n bytes: the line, or nothing where not every line would fit
 unfoldable pub textIn : ℕ → Config → Aggregate → Line → List ℕ
 textIn n t v line = cond (leb lineRoom n) (textOf t v line) []
-
--- the buffer after: these bytes at its start, and the rest as it was
-abbrev pub over : List ℕ → List ℕ → List ℕ
-over bytes buffer = bytes ++ drop (length bytes) buffer

@@ -5,8 +5,9 @@ use aggregate::Config;
 ghost use mathlib.Core.Path.{_≡_};
 ghost use mathlib.Core.List.{_++_};
 ghost use lib.ListN.{length};
-ghost use Rattle.text.specs.Text.{digits, item, cellText, aggregateText, wordsOf, textIn, over};
-ghost use Rattle.text.specs.internal.Putting.{Room, Put};
+ghost use Rattle.text.specs.Text.{digits, padded, item, cellText, aggregateText, wordsOf, textIn};
+ghost use Rattle.finite.specs.Stores.{over, laid, laidEnd};
+ghost use Rattle.finite.specs.internal.Putting.{Room, Put};
 
 // What an answer or a report carries stands beside its line: an enum holds no array.
 pub enum Line {
@@ -147,4 +148,29 @@ pub fn put_line(buf: &mut [u8], line: Line, t: Config, v: Aggregate) -> usize
     }
     let end = put_words(buf, line, t, v);
     put_word(buf, end, b"\n")
+}
+
+// Puts the bytes of word from `at` on, and answers the place after them. A buf without room for them is left as it was, and the answer is `at`.
+pub fn put_bytes(buf: &mut [u8], at: usize, word: &[u8]) -> usize
+    ensures end { λ r. ⌜ r ≡ laidEnd (now (buf .entry)) at (now (word .entry)) ⌝ }
+    ensures bytes { λ _. ⌜ now (buf .exit) ≡ laid (now (buf .entry)) at (now (word .entry)) ⌝ }
+{
+    if buf.len() < at {
+        return at;
+    }
+    if buf.len() - at < word.len() {
+        return at;
+    }
+    put_word(buf, at, word)
+}
+
+// n in decimal, right-aligned in 20 columns.
+pub fn align(n: u64) -> [u8; 20]
+    ensures { λ r. ⌜ r ≡ padded 20 (digits 20 n) ⌝ }
+{
+    let mut left = [b' '; 20];
+    let count = put_number(&mut left, 0, n, MOST_DIGITS);
+    let mut columns = [b' '; 20];
+    let end = put_word(&mut columns, 20 - count, &left[..count]);
+    columns
 }

@@ -2,8 +2,10 @@
 
 use crate::model::aggregate::Aggregate;
 use crate::model::map::{self, Map};
+use crate::model::meet::Meet;
 use crate::model::net::{Net, Run, Step};
 use crate::model::refusal::{number, Refusal};
+use crate::model::sheet;
 use crate::model::station::{Event, Process};
 
 pub trait StationCalls {
@@ -22,6 +24,11 @@ pub trait MapCalls {
 
     /// m; a map handed over is refused as in accepting it.
     fn links(&self, map: &Map) -> Result<u32, Refusal>;
+}
+
+pub trait SheetCalls {
+    /// Gives the number of bytes filled.
+    fn sheet(&self, map: &Map, net: &Meet, buffer: &mut [u8]) -> Result<u32, Refusal>;
 }
 
 pub trait NetCalls<N> {
@@ -96,6 +103,12 @@ impl MapCalls for Model {
     fn links(&self, map: &Map) -> Result<u32, Refusal> {
         map::accept(map)?;
         Ok(map.links())
+    }
+}
+
+impl SheetCalls for Model {
+    fn sheet(&self, map: &Map, net: &Meet, buffer: &mut [u8]) -> Result<u32, Refusal> {
+        sheet::lay_out(map, net, buffer)
     }
 }
 

@@ -1,7 +1,7 @@
 //! Document 01's "Edges" and its example of the program's output, with the lines and the largest total of document 02,
-//! request 1, and the edges of requests 1, 2, 4 and 5, for any subject.
+//! request 1, and the edges of requests 1, 2, 4, 5 and 7, for any subject.
 
-use crate::calls::{MapCalls, NetCalls, StationCalls};
+use crate::calls::{MapCalls, NetCalls, SheetCalls, StationCalls};
 use crate::gen::map::all_linked;
 use crate::gen::net::Sample;
 use crate::gen::station::events;
@@ -698,4 +698,69 @@ pub fn program(output: impl Fn(&[u8]) -> Vec<u8>) {
     assert_eq!(output(&[0; 28]), b"refused 2\n");
     assert_eq!(output(&one_row(44, 44)), b"refused 2\n");
     assert_eq!(output(&one_row(40, 12)), b"refused 4\n");
+}
+
+const TRIANGLE_SHEET: [&str; 5] = [
+    "             42                         ",
+    " 0 1          5                         ",
+    " 1 1          7                         ",
+    " 2 1         11                         ",
+    "T  1           23  0                    ",
+];
+
+/// The triangle with two classes.
+pub const TWO_CLASSES_SHEET: [&str; 9] = [
+    "             42                         ",
+    " 0 1          5                         ",
+    " 0 2          4                         ",
+    " 1 1          7                         ",
+    " 1 2 ----------                         ",
+    " 2 1         11                         ",
+    " 2 2          3                         ",
+    "T  1           23  0                    ",
+    "T  2            7  1                    ",
+];
+
+/// The net of a map after its report.
+fn after_report(map: &Map) -> Meet {
+    let mut net = Meet::set_up(map);
+    net.run(&vec![0; Record::whole(map)]);
+    net
+}
+
+/// The grower sheet (document 02, request 7): its lines, its length, the refusals of its own, and the widest numbers.
+pub fn sheets(subject: &impl SheetCalls) {
+    let sheet = |map: &Map, net: &Meet, room: usize| {
+        let mut bytes = vec![0xa5; room];
+        let answer = subject.sheet(map, net, &mut bytes);
+        (answer, String::from_utf8_lossy(&bytes).into_owned())
+    };
+    let refused = |map: &Map, net: &Meet, room: usize, refusal: Refusal| {
+        let mut bytes = vec![0xa5; room];
+        assert_eq!(subject.sheet(map, net, &mut bytes), Err(refusal), "{map:?} and {net:?}");
+        assert_eq!(bytes, vec![0xa5; room], "a refusal leaves the buffer");
+    };
+    for (map, lines) in [(triangle(), &TRIANGLE_SHEET[..]), (two_classes(), &TWO_CLASSES_SHEET[..])] {
+        let (net, text) = (after_report(&map), lines.join("\n") + "\n");
+        let length = text.len();
+        assert_eq!(sheet(&map, &net, length), (Ok(length as u32), text));
+        refused(&map, &net, length - 1, Cause::BufferTooSmall.with(length as u32));
+        refused(&map, &Meet::set_up(&map), length, Cause::Unreported.alone());
+    }
+    let (map, net) = (triangle(), after_report(&triangle()));
+    refused(&two_classes(), &net, 0, Cause::OtherMap.alone());
+    refused(&Map { desk: 2, ..map }, &net, 0, Cause::OtherMap.alone());
+    refused(&Map { lot: 1 << 48, ..map }, &Meet::set_up(&two_classes()), 0, Cause::LotTooLong.alone());
+    let mut wide = net.clone();
+    wide.stations[0].held.put(0, Cell { sum: 999_999_999_999, missing: 64 });
+    let last = "T  1 999999999999 64                    \n";
+    assert!(sheet(&map, &wide, 205).1.ends_with(last), "the widest total");
+    wide.stations[0].held.put(0, Cell { sum: 1_000_000_000_000, missing: 0 });
+    refused(&map, &wide, 0, Cause::Unreported.alone());
+    let all = all_linked(&[NO_READING - 1; CLASSES]);
+    let (answer, text) = sheet(&all, &after_report(&all), 21_361);
+    assert_eq!((answer, text.len()), (Ok(21_361), 21_361));
+    assert!(text.starts_with("281474976710655 "), "the greatest lot");
+    assert!(text.contains("\n63 8 4294967294 "), "the greatest count");
+    assert!(text.contains("\nT  8 274877906816  0 "), "the largest total");
 }

@@ -13,6 +13,8 @@ pub mod map;
 pub mod meet;
 #[cfg(feature = "meet")]
 pub mod net;
+#[cfg(feature = "meet")]
+pub mod sheet;
 #[cfg(feature = "station")]
 pub mod station;
 

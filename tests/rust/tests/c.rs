@@ -1,6 +1,8 @@
 //! The library from C: the header under strict flags, as C and as C++, the test programs of tests/c, and the worked
 //! examples of examples/c with what documents 01 and 02 imply that they print.
 
+#[cfg(feature = "meet")]
+use conformance::edges::TWO_CLASSES_SHEET;
 use std::collections::BTreeSet;
 use std::fs;
 use std::path::{Path, PathBuf};
@@ -100,6 +102,12 @@ fn stations_that_meet() {
     assert_eq!(run("tests/c/meet.c", &[]), "");
 }
 
+#[cfg(feature = "meet")]
+#[test]
+fn sheets() {
+    assert_eq!(run("tests/c/sheet.c", &[]), "");
+}
+
 #[cfg(feature = "mail")]
 #[test]
 fn stations_with_mail() {
@@ -157,4 +165,13 @@ run: steps 7, at rest 1, station 2 hung on 1, reported 16 1 303 0
 run: steps 9, at rest 1, station 2 hung on 3, reported 16 1 303 0
 ";
     assert_eq!(run("examples/c/desk.c", &[]), lots);
+}
+
+/// Document 02, request 7: the triangle with a second class, in which station 1 has no reading. Before its report the desk is
+/// not finished.
+#[cfg(feature = "meet")]
+#[test]
+fn example_sheet() {
+    let sheet = [&["before the report: refused 21"], &TWO_CLASSES_SHEET[..], &[""]].concat();
+    assert_eq!(run("examples/c/sheet.c", &[]), sheet.join("\n"));
 }

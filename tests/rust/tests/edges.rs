@@ -1,4 +1,4 @@
-//! Document 01's examples on the model, those marked * too, and the edges of document 02, requests 1, 2 and 4.
+//! Document 01's examples on the model, those marked * too, and the edges of document 02, requests 1, 2 and 7.
 
 use conformance::calls::Model;
 use conformance::edges;
@@ -20,6 +20,11 @@ fn maps() {
 fn stations_that_meet() {
     edges::nets::<Meet>(&Model);
     edges::orders(&Model);
+}
+
+#[test]
+fn sheets() {
+    edges::sheets(&Model);
 }
 
 #[test]

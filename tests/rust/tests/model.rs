@@ -2,7 +2,7 @@
 //! and their cases must meet every refusal.
 
 use conformance::calls::Model;
-use conformance::compare::{map, net, program, station, tree};
+use conformance::compare::{map, net, program, sheet, station, tree};
 use conformance::edges;
 use conformance::gen::aggregate;
 use conformance::gen::net::any;
@@ -51,6 +51,7 @@ fn cases_meet_every_refusal() {
     net::freshness::<Mail>(&Model, 500);
     net::hostile::<Meet>(&Model, 2_000);
     net::hostile::<Mail>(&Model, 2_000);
+    sheet::sheets(&Model, 3_000);
 }
 
 #[test]

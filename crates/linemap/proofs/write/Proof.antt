@@ -4,6 +4,7 @@ use mathlib.Core.Bool.{true}
 use Prim.Native.Nat.{_^_, _<_}
 use native.Mathlib.Omega.{arith}
 use borrow.Author.Needs.{needs}
+use borrow.Author.Tests.{ltb-true, ltb-false, not-true, not-false}
 use Rattle.topology.specs.Answer.{isAccepted}
 use Rattle.topology.specs.Acceptance.{faultNumbers, verdictNumbers}
 use Rattle.linemap.specs.Maps.{acceptance}
@@ -17,7 +18,7 @@ is-accepted : (c : tie.After-enum-told) → isAccepted (acceptance (c .before .b
 is-accepted c = ap isAccepted (sym (c .before .before .accept .ensures) ∙ ap verdictNumbers (c .enum-told .given .1))
 
 storable : (c : tie.Else1) → c .before .before .before .before .before .before .args .m .lot < 2 ^ 48
-storable c = omega (arith, c .if1 .left)
+storable c = ltb-true _ _ (sym (c .before .is-storable .ensures) ∙ not-false _ (c .if1 .left))
 
 accept-requires : tie.Need-accept-requires
 accept-requires c κs = search needs
@@ -36,11 +37,15 @@ returns c =
 enum-told : tie.Need-enum-told
 enum-told c = search needs
 
+is-storable-requires : tie.Need-is-storable-requires
+is-storable-requires c κs = search needs
+
 stored-length-requires : tie.Need-stored-length-requires
 stored-length-requires c κs = search needs
 
 returns-2 : tie.Need-returns-2
-returns-2 c = long-lot _ _ (is-accepted (c .before .before)) (c .if1 .taken)
+returns-2 c =
+    long-lot _ _ (is-accepted (c .before .before)) (ltb-false _ _ (sym (c .before .is-storable .ensures) ∙ not-true _ (c .if1 .taken)))
 
 returns-3 : tie.Need-returns-3
 returns-3 c =
@@ -73,6 +78,7 @@ write-spec =
     enum-known-verdict
     returns
     enum-told
+    is-storable-requires
     returns-2
     stored-length-requires
     returns-3

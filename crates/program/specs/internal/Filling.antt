@@ -6,7 +6,7 @@ use lib.ListN.{length, take, drop}
 use Rattle.topology.specs.Answer.{accepted}
 use Rattle.linemap.specs.declared.Map.{Map}
 use Rattle.linemap.specs.Maps.{acceptance}
-use Rattle.text.specs.internal.Putting.{Room, Put}
+use Rattle.finite.specs.internal.Putting.{Room, Put}
 use Rattle.opening.specs.Opening.{inputOpening}
 use Rattle.program.specs.declared.Shown.{Shown}
 use Rattle.program.specs.Output.{shownText, closingLine, linesOf, outputOf, mostLines, outputRoom}

@@ -2,6 +2,7 @@
 -- digits allowed. Assumes nothing.
 use Prim.Native.Nat.{ℕ, _<_}
 use native.Mathlib.Omega.{arith}
+use lib.ListN.{length}
 use borrow.Author.Needs.{needs}
 use borrow.Fn.Kinds.{In}
 use borrow.Fn.PlainCycle.{Measures, is, falls, and}
@@ -108,31 +109,31 @@ put-number-add-buf-2 : (t : ℕ) → put-number-lts.Need-add-buf-2 (
 ) (put-number-at t) put-number.Post
 put-number-add-buf-2 t c = omega arith
 
+-- there is room for the last digit where the others end
+put-number-last-room : (t : ℕ) (c : put-number-lts.After-slice-known2 (
+  put-number-below t,
+  put-number.Post,
+) (put-number-at t) put-number.Post)
+    → c .before .before .put-number .result < length (c .before .before .before .before .before .before .before .args .buf .now)
+put-number-last-room t c =
+    let start = c .before .before .before .before .before .before .before in
+    let a = start .args in
+    last-room (a .buf .now) (a .at) (a .most) (a .n) (omega arith) (c .before .before .before .before .if2 .left)
+    (start .pre .1) (c .before .before .put-number .ensures)
+
 put-number-slice-write-buf-2 : (t : ℕ) → put-number-lts.Need-slice-write-buf-2 (
   put-number-below t,
   put-number.Post,
 ) (put-number-at t) put-number.Post
 put-number-slice-write-buf-2 t c =
-    let start = c .before .before .before .before .before .before .before in
-    let a = start .args in
-    omega (
-      arith,
-      last-room (a .buf .now) (a .at) (a .most) (a .n) (omega arith) (c .before .before .before .before .if2 .left)
-          (start .pre .1) (c .before .before .put-number .ensures),
-    )
+    omega (arith, put-number-last-room t c)
 
 put-number-add-result-2 : (t : ℕ) → put-number-lts.Need-add-result-2 (
   put-number-below t,
   put-number.Post,
 ) (put-number-at t) put-number.Post
 put-number-add-result-2 t c =
-    let start = c .before .before .before .before .before .before .before in
-    let a = start .args in
-    omega (
-      arith,
-      last-room (a .buf .now) (a .at) (a .most) (a .n) (omega arith) (c .before .before .before .before .if2 .left)
-          (start .pre .1) (c .before .before .put-number .ensures),
-    )
+    omega (arith, put-number-last-room t c)
 
 put-number-same-length-2 : (t : ℕ) → put-number-lts.Need-same-length-2 (
   put-number-below t,

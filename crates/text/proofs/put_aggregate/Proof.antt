@@ -8,8 +8,8 @@ use lib.ListN.{length}
 use Rattle.finite.specs.Below.{each}
 use Rattle.aggregate.specs.Aggregate.{used, cell}
 use Rattle.text.specs.Text.{cellText, aggregateText}
-use Rattle.text.specs.internal.Putting.{Put}
-use Rattle.text.proofs.Stores.{room-piece, put-piece}
+use Rattle.finite.specs.internal.Putting.{Put}
+use Rattle.finite.proofs.Stores.{room-piece, put-piece}
 use Rattle.text.proofs.put_aggregate.Statement.{statement}
 use Rattle.text.proofs.put_aggregate.Tie as tie
 

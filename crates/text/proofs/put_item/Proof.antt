@@ -1,7 +1,7 @@
 -- `text::put_item` meets its contract: the word, then the number. Assumes nothing.
 use borrow.Author.Needs.{needs}
 use Rattle.text.specs.Text.{item, digits}
-use Rattle.text.proofs.Stores.{put-then, room-first, room-next}
+use Rattle.finite.proofs.Stores.{put-then, room-first, room-next}
 use Rattle.text.proofs.put_item.Statement.{statement}
 use Rattle.text.proofs.put_item.Tie as tie
 

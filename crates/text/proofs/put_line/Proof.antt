@@ -2,7 +2,7 @@
 use borrow.Author.Needs.{needs}
 use Rattle.text.specs.Ascii.{ascii}
 use Rattle.text.specs.Text.{textOf}
-use Rattle.text.proofs.Stores.{put-then, room-first, room-next}
+use Rattle.finite.proofs.Stores.{put-then, room-first, room-next}
 use Rattle.text.proofs.Lines.{line-left, line-room, line-put}
 use Rattle.text.proofs.put_line.Statement.{statement}
 use Rattle.text.proofs.put_line.Tie as tie

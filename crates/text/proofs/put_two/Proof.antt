@@ -1,7 +1,7 @@
 -- `text::put_two` meets its contract: one item, then the other. Assumes nothing.
 use borrow.Author.Needs.{needs}
 use Rattle.text.specs.Text.{item}
-use Rattle.text.proofs.Stores.{put-then, room-first, room-next}
+use Rattle.finite.proofs.Stores.{put-then, room-first, room-next}
 use Rattle.text.proofs.put_two.Statement.{statement}
 use Rattle.text.proofs.put_two.Tie as tie
 

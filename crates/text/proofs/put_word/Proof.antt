@@ -4,8 +4,8 @@ use Prim.Native.Nat.{_+_, _-_, _≤_}
 use native.Mathlib.Omega.{arith}
 use lib.ListN.{length, take, length-set}
 use lib.Seq.{take-all}
-use Rattle.text.specs.internal.Putting.{Put}
-use Rattle.text.proofs.Stores.{put-more}
+use Rattle.finite.specs.internal.Putting.{Put}
+use Rattle.finite.proofs.Stores.{put-more}
 use Rattle.text.proofs.put_word.Statement.{statement}
 use Rattle.text.proofs.put_word.Tie as tie
 

@@ -3,7 +3,7 @@
 use borrow.Author.Needs.{needs}
 use Rattle.text.specs.Ascii.{ascii}
 use Rattle.text.specs.Text.{item, aggregateText}
-use Rattle.text.proofs.Stores.{put-then, room-first, room-next}
+use Rattle.finite.proofs.Stores.{put-then, room-first, room-next}
 use Rattle.text.proofs.put_words.Statement.{statement}
 use Rattle.text.proofs.put_words.Tie as tie
 

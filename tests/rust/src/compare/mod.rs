@@ -3,6 +3,7 @@
 pub mod map;
 pub mod net;
 pub mod program;
+pub mod sheet;
 pub mod station;
 pub mod tree;
 

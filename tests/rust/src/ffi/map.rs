@@ -40,7 +40,7 @@ impl LaidOut for model::Map {
 }
 
 /// A number of links or of bytes.
-fn count(packed: Packed) -> Result<u32, Refusal> {
+pub fn count(packed: Packed) -> Result<u32, Refusal> {
     packed.given().map(|value| value.try_into().expect("a count"))
 }
 

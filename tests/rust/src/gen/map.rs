@@ -175,8 +175,13 @@ pub fn handed_over(rng: &mut Rng) -> Map {
     if rng.chance(25) {
         map.lot = rng.pick(&LONG_LOTS);
     }
-    // of bad numbers, often two
     let bad = rng.below(100);
+    bad_numbers(rng, &mut map, bad);
+    map
+}
+
+/// Below 20, a desk, k or c that is none, often two of them.
+fn bad_numbers(rng: &mut Rng, map: &mut Map, bad: u64) {
     if (6..20).contains(&bad) {
         map.desk = no_desk(rng, map.k);
     }
@@ -186,7 +191,16 @@ pub fn handed_over(rng: &mut Rng) -> Map {
     if (4..12).contains(&bad) {
         map.classes = rng.pick(&NO_CLASS_COUNTS);
     }
-    map
+}
+
+/// A lot that is too long, or bad numbers.
+pub fn break_numbers(rng: &mut Rng, map: &mut Map) {
+    if rng.chance(50) {
+        map.lot = rng.pick(&LONG_LOTS);
+    } else {
+        let bad = rng.below(20);
+        bad_numbers(rng, map, bad);
+    }
 }
 
 /// Breaks one of the rules 7 to 10 or several.

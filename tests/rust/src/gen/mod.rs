@@ -7,4 +7,5 @@ pub mod call;
 mod mail;
 pub mod map;
 pub mod net;
+pub mod sheet;
 pub mod station;

@@ -118,6 +118,10 @@ fn reachable<N: Sample>(rng: &mut Rng) -> N {
 fn in_form<N: Sample>(rng: &mut Rng) -> N {
     let k = map::station_count(rng);
     let config = Config { k, classes: aggregate::class_count(rng), desk: map::desk(rng, k) };
+    in_form_of(rng, config)
+}
+
+pub fn in_form_of<N: Sample>(rng: &mut Rng, config: Config) -> N {
     let mut stations = [Station::default(); PLACES];
     for own in 0..config.k {
         stations[usize::from(own)] = station::in_form(rng, own, config);
@@ -150,7 +154,7 @@ fn near_bound<N: Sample>(rng: &mut Rng, net: &mut N) {
 }
 
 /// Takes one thing out of form: a field of a station, a message, k, c or the desk.
-fn spoil<N: Sample>(rng: &mut Rng, net: &mut N) {
+pub fn spoil<N: Sample>(rng: &mut Rng, net: &mut N) {
     let (config, choice) = (net.config(), rng.below(13));
     if choice == 0 {
         net.config_mut().k = rng.pick(&NO_STATION_COUNTS);

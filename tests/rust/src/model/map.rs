@@ -213,13 +213,19 @@ fn joined_to(desk: u8, sets: &[u64]) -> u64 {
     }
 }
 
-/// Writes an accepted map at the first lent byte; the bytes past it stay. Gives the number of bytes filled. Refusals 2, 3,
-/// 19, 7 to 10, 18, 15.
-pub fn write(map: &Map, buffer: &mut [u8]) -> Result<u32, Refusal> {
+/// A map handed over to be written goes 2, 3, 19, 7 to 10, and 18.
+pub fn accept_for_writing(map: &Map) -> Result<(), Refusal> {
     accept(map)?;
     if map.lot >= LOT_LIMIT {
         return Err(Cause::LotTooLong.alone());
     }
+    Ok(())
+}
+
+/// Writes an accepted map at the first lent byte; the bytes past it stay. Gives the number of bytes filled. Refusals 2, 3,
+/// 19, 7 to 10, 18, 15.
+pub fn write(map: &Map, buffer: &mut [u8]) -> Result<u32, Refusal> {
+    accept_for_writing(map)?;
     let length = map.stored_length();
     match buffer.get_mut(..length) {
         Some(filled) => {

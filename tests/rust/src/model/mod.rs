@@ -9,6 +9,7 @@ pub mod meet;
 pub mod net;
 pub mod refusal;
 pub mod set;
+pub mod sheet;
 pub mod station;
 pub mod text;
 pub mod tree;

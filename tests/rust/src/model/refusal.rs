@@ -1,4 +1,4 @@
-//! Causes and numbers (document 01, and document 02, requests 4 and 5): why a call is refused, and what it returns then.
+//! Causes and numbers (document 01, and document 02, requests 4, 5 and 7): why a call is refused, and what it returns then.
 
 #[derive(Clone, Copy, PartialEq, Eq, Debug)]
 #[repr(u8)]
@@ -22,6 +22,8 @@ pub enum Cause {
     InputTooLong = 17,
     LotTooLong = 18,
     Desk = 19,
+    OtherMap = 20,
+    Unreported = 21,
 }
 
 impl Cause {

@@ -1,5 +1,6 @@
 //! The tests' own tests: document 01's hollow programs and wrong turns, those of missing readings, of classes, of lots,
-//! of desks and of words, must not pass. Each is the model of a station, of maps or of a kind of net with one fault.
+//! of desks, of words and of sheets, must not pass. Each is the model of a station, of maps, of a kind of net or of
+//! sheets with one fault.
 
 mod classes;
 mod desk;
@@ -7,6 +8,7 @@ mod faulty;
 mod mail;
 mod map;
 mod meet;
+mod sheet;
 mod station;
 mod tree;
 

@@ -1,4 +1,4 @@
--- What the parts of `put_line` leave.
+-- What a function that fills a lent buffer asks of it, and leaves.
 use mathlib.Core.Path.{_≡_}
 use mathlib.Core.List.{List}
 use Prim.Native.Nat.{ℕ, _+_, _≤_}

@@ -9,10 +9,11 @@ use native.Mathlib.Numerals.{add-one}
 use native.Mathlib.Omega.{arith}
 use lib.ListN.{length, set, take, getD, length-append}
 use lib.Seq.{sets, sets-eq, length-sets, length-take-le, take-suc}
+use borrow.Author.Tests.{le-leb, lt-leb}
 use Rattle.finite.specs.Below.{each}
+use Rattle.finite.specs.Stores.{over, laid, laidEnd}
+use Rattle.finite.specs.internal.Putting.{Room, Put}
 use Rattle.finite.proofs.Cases.{by-eq}
-use Rattle.text.specs.Text.{over}
-use Rattle.text.specs.internal.Putting.{Room, Put}
 
 -- a run right after another is one run
 sets-sets : (vs ws l : List ℕ) (at : ℕ) → sets (sets l at vs) (at + length vs) ws ≡ sets l at (vs ++ ws)
@@ -70,3 +71,21 @@ module _ {l : List ℕ} {at : ℕ} (f : ℕ → List ℕ) where
   pub put-piece : {l₁ l₂ : List ℕ} {i r₁ r₂ : ℕ} → Put l at (each f i) l₁ r₁ → Put l₁ r₁ (f i) l₂ r₂ → Put l at (each f (i + 1)) l₂ r₂
   unfolding each
   put-piece {l₁} {l₂} {i} p q = rw (add-one i) (put-then p q)
+
+-- bytes that are laid where there is room for them are put, and where there is none nothing is
+module _ (l : List ℕ) (at : ℕ) (vs : List ℕ) where
+  pub laid-put : {l′ : List ℕ} {r : ℕ} → Room l at vs → r ≡ laidEnd l at vs → l′ ≡ laid l at vs → Put l at vs l′ r
+  unfolding laid laidEnd
+  laid-put room end bytes =
+      let fits = le-leb (at + length vs) (length l) (room .fits) in
+      record { bytes = bytes ∙ rw fits (sym (sets-eq vs l at (room .fits))); end = end ∙ rw fits }
+
+  pub put-laid : {l′ : List ℕ} {r : ℕ} → Room l at vs → Put l at vs l′ r → (r ≡ laidEnd l at vs) × (l′ ≡ laid l at vs)
+  unfolding laid laidEnd
+  put-laid room p =
+      let fits = le-leb (at + length vs) (length l) (room .fits) in
+      (p .end ∙ rw fits, p .bytes ∙ sets-eq vs l at (room .fits) ∙ rw fits)
+
+  pub none-laid : length l < at + length vs → (at ≡ laidEnd l at vs) × (l ≡ laid l at vs)
+  unfolding laid laidEnd
+  none-laid less = let over = lt-leb (at + length vs) (length l) less in (rw over, rw over)

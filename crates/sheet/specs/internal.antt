@@ -1,2 +1,2 @@
 -- Definitions that only code and proofs use: no public contract and no claim needs them.
-pub mod Putting
+pub mod Laying

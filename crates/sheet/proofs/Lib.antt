@@ -1,0 +1,9 @@
+pub mod Laying
+pub mod Columns
+pub mod Lines
+pub mod Rules
+pub mod Shown
+pub mod Places
+pub mod Adding
+pub mod Answers
+pub mod Examples
