@@ -152,10 +152,20 @@ struct tally_config {
     uint8_t desk;
 };
 
+/* A net is lent in two parts. Its stations, and whether totals are carried back to them: 0 without, 1 with; another number is out of form. */
 struct tally_rendezvous {
     struct tally_config config;
+    uint8_t carrying;
     struct tally_station stations[TALLY_STATIONS];
 };
+
+/* And the totals that its stations keep, zero in a fresh net. Without carrying back they are neither looked at nor touched. */
+struct tally_kept {
+    struct tally_aggregate totals[TALLY_STATIONS];
+};
+
+/* The state of a station that was told the total; with carrying back alone. */
+enum { TALLY_TOLD = 3 };
 
 /* What a run answers, and the steps made. Number 0 comes with the value 1 where the net reached is at rest, and else 0; number 11 always
    with 0, as a run that stops with it is not called at rest. */
@@ -168,32 +178,37 @@ TALLY_ASSERT(sizeof(struct tally_config) == 3);
 TALLY_ASSERT(offsetof(struct tally_config, classes) == 1);
 TALLY_ASSERT(offsetof(struct tally_config, desk) == 2);
 TALLY_ASSERT(sizeof(struct tally_rendezvous) == 5640);
+TALLY_ASSERT(offsetof(struct tally_rendezvous, carrying) == 3);
 TALLY_ASSERT(offsetof(struct tally_rendezvous, stations) == 8);
+TALLY_ASSERT(sizeof(struct tally_kept) == 4608);
 TALLY_ASSERT(sizeof(struct tally_run) == 16);
 TALLY_ASSERT(offsetof(struct tally_run, steps) == 8);
 
-/* The kinds of step. A report is from the desk to the desk. */
-enum { TALLY_WAKE = 1, TALLY_PASS, TALLY_ANSWER, TALLY_REPORT };
+/* The kinds of step. A report is from the desk to the desk. With carrying back a tell goes, after the report, from a station that knows the
+   total (the desk, or one that was told) to a finished station but the desk whose parent it is: that one comes to TALLY_TOLD, and keeps the
+   total, zero past the classes in use. Without, TALLY_TELL is out of range (12) and TALLY_TOLD out of form (11). With it, in form are told
+   stations but the desk that wait for nothing, and kept totals within the bounds of sums and missing numbers. */
+enum { TALLY_WAKE = 1, TALLY_PASS, TALLY_ANSWER, TALLY_REPORT, TALLY_TELL };
 
 /* The step that an accepted step or draw made, in either kind of net. */
 #define TALLY_KIND(answer) ((uint8_t)((answer) >> 8))
 #define TALLY_SENDER(answer) ((uint8_t)((answer) >> 16))
 #define TALLY_RECEIVER(answer) ((uint8_t)((answer) >> 24))
 
-/* Opens the fresh net of a map: 0, or 2, or 3, or 19, or 7 to 10 with the station, which leave *net. Past k and past the classes it is
-   zero. */
-uint64_t tally_rendezvous_fresh(struct tally_rendezvous *net, struct tally_map map);
+/* Opens the fresh net of a map, for carrying back unless carrying is 0: 0, or 2, or 3, or 19, or 7 to 10 with the station, which leave *net and
+   *kept. Past k and past the classes it is zero. */
+uint64_t tally_rendezvous_fresh(struct tally_rendezvous *net, struct tally_kept *kept, struct tally_map map, uint8_t carrying);
 
 /* One step: 0 with the step made (kind, sender, receiver), or 11 (classes not 1 to TALLY_CLASSES, or a desk not below k, among
-   it), 12, 13, which leave *net. */
-uint64_t tally_rendezvous_step(struct tally_rendezvous *net, uint8_t kind, uint8_t sender, uint8_t receiver);
+   it), 12, 13, which leave *net and *kept. */
+uint64_t tally_rendezvous_step(struct tally_rendezvous *net, struct tally_kept *kept, uint8_t kind, uint8_t sender, uint8_t receiver);
 
-/* The step that draw d picks: 0 with the step made, or 11, or 14 (nothing allowed), which leave *net. */
-uint64_t tally_rendezvous_draw(struct tally_rendezvous *net, uint16_t d);
+/* The step that draw d picks: 0 with the step made, or 11, or 14 (nothing allowed), which leave *net and *kept. */
+uint64_t tally_rendezvous_draw(struct tally_rendezvous *net, struct tally_kept *kept, uint16_t d);
 
 /* The steps that the draws pick, until they are used up or the net is at rest. A run that starts outside the form or leaves it stops with
-   11, and has left in *net the net that it reached. */
-struct tally_run tally_rendezvous_run(struct tally_rendezvous *net, const uint16_t *draws, size_t count);
+   11, and has left in *net and *kept the net that it reached. */
+struct tally_run tally_rendezvous_run(struct tally_rendezvous *net, struct tally_kept *kept, const uint16_t *draws, size_t count);
 
 /* ---- the grower sheet ----------------------------------------------------------------------------------------------------------------
 
@@ -212,7 +227,7 @@ TALLY_ASSERT(TALLY_SHEET_MOST == 21361);
 /* Lays the sheet of a map and its net out, from the first byte: 0 with the number of bytes filled, or the numbers of tally_map_write but 15 for
    the map, 11 for the net, 20 (the net's k, class count or desk is not the map's), 21 (the desk is not finished, or a sum has more than 12 digits),
    15 with the length needed, which leave the bytes. What stands past the sheet is left. */
-uint64_t tally_sheet(struct tally_map map, const struct tally_rendezvous *net, uint8_t *bytes, size_t length);
+uint64_t tally_sheet(struct tally_map map, const struct tally_rendezvous *net, const struct tally_kept *kept, uint8_t *bytes, size_t length);
 
 /* ---- stations with mail -------------------------------------------------------------------------------------------------------------
 

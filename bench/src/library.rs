@@ -2,7 +2,8 @@
 
 use conformance::ffi::lending::LaidOut;
 use conformance::ffi::map::{self, tally_map_read, tally_map_write};
-use conformance::ffi::net::{Exports, Line};
+use conformance::ffi::meet;
+use conformance::ffi::net::Exports;
 use conformance::ffi::sheet::tally_sheet;
 use conformance::model::map::Map;
 use conformance::model::net::{Net as Model, Step};
@@ -16,8 +17,10 @@ pub fn write(map: map::Map, buffer: &mut [u8]) {
     unsafe { tally_map_write(map, buffer.as_mut_ptr(), buffer.len()) }.given().expect("the map is accepted");
 }
 
-pub fn sheet(map: map::Map, net: &Line, buffer: &mut [u8]) {
-    unsafe { tally_sheet(map, net, buffer.as_mut_ptr(), buffer.len()) }.given().expect("the lot is reported");
+pub fn sheet(map: map::Map, net: &meet::Net, buffer: &mut [u8]) {
+    unsafe { tally_sheet(map, &net.line, &net.kept, buffer.as_mut_ptr(), buffer.len()) }
+        .given()
+        .expect("the lot is reported");
 }
 
 /// A net of the kind that a model has.

@@ -8,7 +8,7 @@ mod timing;
 use conformance::ffi::lending::LaidOut;
 use conformance::ffi::net::Exports;
 use conformance::model::map::{stored, Map};
-use conformance::model::meet::Meet;
+use conformance::model::meet::{Back, Meet};
 use conformance::model::net::{Net as Model, Step};
 use conformance::model::sheet::length;
 use conformance::model::station::Station;
@@ -59,6 +59,28 @@ impl Net for Meet {
     }
 }
 
+impl Net for by_hand::back::Back {
+    fn fresh(map: &Map) -> by_hand::back::Back {
+        by_hand::back::fresh(map)
+    }
+
+    fn step(&mut self, step: Step) {
+        by_hand::back::step(self, step).expect("the step is allowed");
+    }
+
+    fn draw(&mut self, draw: u16) {
+        by_hand::back::draw(self, draw).expect("a step is allowed");
+    }
+
+    fn run(&mut self, draws: &[u16]) -> usize {
+        by_hand::back::run(self, draws).expect("the net stays in form").0
+    }
+
+    fn stations(&self) -> [Station; 64] {
+        self.0.stations
+    }
+}
+
 #[cfg(feature = "mail")]
 impl Net for by_hand::mail::Mail {
     fn fresh(map: &Map) -> by_hand::mail::Mail {
@@ -87,10 +109,11 @@ fn main() {
     for classes in CLASSES {
         println!("Classes: {classes}");
         maps(classes);
-        nets::<Meet, Meet>("Stations that meet", classes);
+        nets::<Meet, Meet>("Stations that meet", classes, true);
+        nets::<Back, by_hand::back::Back>("Stations that meet, totals carried back", classes, false);
         sheet(classes);
         #[cfg(feature = "mail")]
-        nets::<conformance::model::mail::Mail, by_hand::mail::Mail>("Stations with mail", classes);
+        nets::<conformance::model::mail::Mail, by_hand::mail::Mail>("Stations with mail", classes, true);
     }
 }
 
@@ -135,7 +158,7 @@ fn maps_agree(map: &Map, bytes: &[u8]) {
 fn sheet(classes: u8) {
     let map = clique(64, classes);
     let mut net = by_hand::meet::fresh(&map);
-    Net::run(&mut net, &draws(&map));
+    Net::run(&mut net, &draws(&map, 0));
     let (laid_out, line_of_net) = (map.lay_out(), net.lay_out());
     let blank = vec![0; length(&map)];
     println!("A sheet of 64 stations, {} bytes", blank.len());
@@ -150,8 +173,8 @@ fn sheet(classes: u8) {
     assert!(given == given_by_hand, "the two lay out different sheets");
 }
 
-/// One kind of net: a draw and a step on 64 stations, then whole runs.
-fn nets<M, H>(kind: &str, classes: u8)
+/// One kind of net: a draw and a step on 64 stations, then whole runs. For totals carried back no bar was asked for.
+fn nets<M, H>(kind: &str, classes: u8, has_bars: bool)
 where
     M: Model + LaidOut,
     M::Layout: Clone + Exports,
@@ -160,14 +183,14 @@ where
     println!("{kind}: one draw and one step are the mean over a whole wave; a run is from fresh to rest");
     for (shape, map_of) in SHAPES {
         let map = map_of(64, classes);
-        one_by_one::<M, H>(shape, &map, &draws(&map));
+        one_by_one::<M, H>(shape, &map, &draws(&map, M::tells(&map)), has_bars);
         let mut before = None;
         for k in SIZES {
             let map = map_of(k, classes);
-            let draws = draws(&map);
+            let draws = draws(&map, M::tells(&map));
             let times = whole_run::<library::Net<M>, H>(&map, &draws);
             let what = format!("{shape}, run of {k}, {} steps", draws.len());
-            println!("{}{}", line(&what, times, bar_of_run(k)), growth(before, times));
+            println!("{}{}", line(&what, times, bar_of_run(k).filter(|_| has_bars)), growth(before, times));
             before = Some(times);
         }
     }
@@ -190,7 +213,7 @@ fn growth(before: Option<Times>, times: Times) -> String {
     })
 }
 
-fn one_by_one<M, H>(shape: &str, map: &Map, draws: &[u16])
+fn one_by_one<M, H>(shape: &str, map: &Map, draws: &[u16], has_bars: bool)
 where
     M: Model + LaidOut,
     M::Layout: Clone + Exports,
@@ -202,7 +225,7 @@ where
         Timed::new(&library, |net| draws.iter().for_each(|&draw| net.draw(draw))),
         Timed::new(&by_hand, |net| draws.iter().for_each(|&draw| net.draw(draw))),
     );
-    println!("{}", line(&format!("{shape}, one draw of 64"), drawn.of_each(draws.len()), Some(2.5)));
+    println!("{}", line(&format!("{shape}, one draw of 64"), drawn.of_each(draws.len()), has_bars.then_some(2.5)));
     let stepped = times(
         Timed::new(&library, |net| steps.iter().for_each(|&step| net.step(step))),
         Timed::new(&by_hand, |net| steps.iter().for_each(|&step| net.step(step))),

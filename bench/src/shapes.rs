@@ -36,12 +36,12 @@ pub fn clique(k: u8, classes: u8) -> Map {
     of_links(k, classes, (0..k).flat_map(|b| (0..b).map(move |a| (a, b))))
 }
 
-/// Draws enough for a whole wave, the same each time.
-pub fn draws(map: &Map) -> Vec<u16> {
+/// Draws enough for a whole wave and so many tells, the same each time.
+pub fn draws(map: &Map, tells: usize) -> Vec<u16> {
     let mut state = 9640u32;
     let mut draw = || {
         state = state.wrapping_mul(1_664_525).wrapping_add(1_013_904_223);
         (state >> 16) as u16
     };
-    (0..2 * map.links() + 1).map(|_| draw()).collect()
+    (0..2 * map.links() as usize + 1 + tells).map(|_| draw()).collect()
 }

@@ -18,6 +18,9 @@ static const uint8_t stored[] = {
     3, 0, 12, 0, 36, 0, 0, 0, 42, 0, 0, 0, 0x8a, 0xff, 0xf3, 0xff,
 };
 
+/* What stations keep of totals that are carried back; here none are. */
+static struct tally_kept kept;
+
 /* Sum and missing number for each class in turn. */
 static void print_held(const struct tally_rendezvous *net, uint8_t station)
 {
@@ -45,7 +48,7 @@ static unsigned draw_by_draw(struct tally_rendezvous *net)
     unsigned steps = 0;
     uint64_t answer;
 
-    while (TALLY_NUMBER(answer = tally_rendezvous_draw(net, 0)) == 0) {
+    while (TALLY_NUMBER(answer = tally_rendezvous_draw(net, &kept, 0)) == 0) {
         print_step(net, answer);
         steps++;
     }
@@ -59,8 +62,8 @@ static void run(struct tally_map map)
     static const uint16_t draws[] = {0, 1, 0, 0, 0, 0, 0, 0, 0};
     struct tally_rendezvous net;
 
-    tally_rendezvous_fresh(&net, map);
-    struct tally_run run = tally_rendezvous_run(&net, draws, sizeof draws / sizeof draws[0]);
+    tally_rendezvous_fresh(&net, &kept, map, 0);
+    struct tally_run run = tally_rendezvous_run(&net, &kept, draws, sizeof draws / sizeof draws[0]);
     printf("run: steps %" PRIu64 ", at rest %" PRIu64 ", station 2 hung on %u, reported", run.steps, TALLY_VALUE(run.answer),
            net.stations[2].parent);
     print_held(&net, net.config.desk);
@@ -80,7 +83,7 @@ int main(void)
         return 1;
     uint64_t links = TALLY_VALUE(tally_map_links(map));
 
-    tally_rendezvous_fresh(&net, map); /* a map that was read is accepted */
+    tally_rendezvous_fresh(&net, &kept, map, 0); /* a map that was read is accepted */
     unsigned steps = draw_by_draw(&net);
     printf("lot %" PRIu64 " steps %u links %" PRIu64 "\n", map.lot, steps, links);
 

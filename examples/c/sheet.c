@@ -16,13 +16,14 @@ int main(void)
     static const uint16_t draws[] = {0, 0, 0, 0, 0, 0, 0}; /* twice the links, and one */
     static uint8_t sheet[TALLY_SHEET_MOST];
     struct tally_rendezvous net;
+    struct tally_kept kept; /* what is told of the total: nothing, as it is not carried back */
 
-    if (TALLY_NUMBER(tally_rendezvous_fresh(&net, map)) != 0)
+    if (TALLY_NUMBER(tally_rendezvous_fresh(&net, &kept, map, 0)) != 0)
         return 1;
-    printf("before the report: refused %u\n", TALLY_NUMBER(tally_sheet(map, &net, sheet, sizeof sheet)));
-    tally_rendezvous_run(&net, draws, sizeof draws / sizeof draws[0]);
+    printf("before the report: refused %u\n", TALLY_NUMBER(tally_sheet(map, &net, &kept, sheet, sizeof sheet)));
+    tally_rendezvous_run(&net, &kept, draws, sizeof draws / sizeof draws[0]);
 
-    uint64_t answer = tally_sheet(map, &net, sheet, sizeof sheet);
+    uint64_t answer = tally_sheet(map, &net, &kept, sheet, sizeof sheet);
     if (TALLY_NUMBER(answer) != 0)
         return 1;
     fwrite(sheet, 1, TALLY_VALUE(answer), stdout);

@@ -3,29 +3,32 @@
 #include "check.h"
 #include "triangle.h"
 
+/* Without carrying back no call looks at these: they are zero after an opening, and stay. */
+static struct tally_kept kept;
+
 static void refusals(struct tally_rendezvous *net)
 {
     struct tally_map apart = triangle;
     apart.neighbours[0] = 4;
-    CHECK(tally_rendezvous_fresh(net, apart) == 9 + 256 * 1);
-    CHECK(tally_rendezvous_step(net, TALLY_REPORT + 1, 0, 1) == 12);
-    CHECK(tally_rendezvous_step(net, TALLY_WAKE, 0, 3) == 12);
-    CHECK(tally_rendezvous_step(net, TALLY_REPORT, 0, 0) == 13);
+    CHECK(tally_rendezvous_fresh(net, &kept, apart, 0) == 9 + 256 * 1);
+    CHECK(tally_rendezvous_step(net, &kept, TALLY_TELL, 0, 1) == 12);
+    CHECK(tally_rendezvous_step(net, &kept, TALLY_WAKE, 0, 3) == 12);
+    CHECK(tally_rendezvous_step(net, &kept, TALLY_REPORT, 0, 0) == 13);
     CHECK(are_fresh(net->config, net->stations));
     struct tally_rendezvous out_of_form = *net;
     out_of_form.stations[2].state = TALLY_FINISHED + 1;
-    CHECK(tally_rendezvous_step(&out_of_form, TALLY_WAKE, 0, 1) == 11);
-    CHECK(tally_rendezvous_draw(&out_of_form, 0) == 11);
+    CHECK(tally_rendezvous_step(&out_of_form, &kept, TALLY_WAKE, 0, 1) == 11);
+    CHECK(tally_rendezvous_draw(&out_of_form, &kept, 0) == 11);
     const uint16_t draws[1] = {0};
-    struct tally_run run = tally_rendezvous_run(&out_of_form, draws, 1);
+    struct tally_run run = tally_rendezvous_run(&out_of_form, &kept, draws, 1);
     CHECK(run.answer == 11 && run.steps == 0);
     out_of_form = *net;
     out_of_form.stations[2].held.missing[0] = TALLY_MOST_MISSING + 1;
-    CHECK(tally_rendezvous_draw(&out_of_form, 0) == 11);
+    CHECK(tally_rendezvous_draw(&out_of_form, &kept, 0) == 11);
     CHECK(is(&out_of_form.stations[2], held(11, TALLY_MOST_MISSING + 1), 3, 0, 2, TALLY_ASLEEP));
     out_of_form = *net;
     out_of_form.config.classes = TALLY_CLASSES + 1;
-    CHECK(tally_rendezvous_step(&out_of_form, TALLY_WAKE, 0, 1) == 11 && tally_rendezvous_draw(&out_of_form, 0) == 11);
+    CHECK(tally_rendezvous_step(&out_of_form, &kept, TALLY_WAKE, 0, 1) == 11 && tally_rendezvous_draw(&out_of_form, &kept, 0) == 11);
 }
 
 /* Station 1 has no reading: nothing is added to the sum, and one to the missing number. */
@@ -33,18 +36,18 @@ static void missing(void)
 {
     static const uint16_t draws[7] = {0};
     struct tally_rendezvous net;
-    CHECK(tally_rendezvous_fresh(&net, lamp_failed) == 0);
+    CHECK(tally_rendezvous_fresh(&net, &kept, lamp_failed, 0) == 0);
     CHECK(is(&net.stations[1], held(0, 1), 5, 0, 2, TALLY_ASLEEP));
     struct tally_rendezvous full = net;
-    CHECK(tally_rendezvous_run(&net, draws, 7).answer == 256);
+    CHECK(tally_rendezvous_run(&net, &kept, draws, 7).answer == 256);
     CHECK(is(&net.stations[0], held(16, 1), 0, 0, 0, TALLY_FINISHED));
 
     /* with the most at station 0, the fifth step, answer 1 0, leaves the form: a run stops there, and the net reached is refused */
     full.stations[0].held.missing[0] = TALLY_MOST_MISSING;
-    struct tally_run stopped = tally_rendezvous_run(&full, draws, 7);
+    struct tally_run stopped = tally_rendezvous_run(&full, &kept, draws, 7);
     CHECK(stopped.answer == 11 && stopped.steps == 5);
     CHECK(is(&full.stations[0], held(5, TALLY_MOST_MISSING + 1), 0, 0, 1, TALLY_ACTIVE));
-    CHECK(tally_rendezvous_draw(&full, 0) == 11);
+    CHECK(tally_rendezvous_draw(&full, &kept, 0) == 11);
 }
 
 /* Two classes, each with its own total; what stands past them stays where it is. With a third in use the net is out of form. */
@@ -52,7 +55,7 @@ static void classes(void)
 {
     static const uint16_t draws[7] = {0};
     struct tally_rendezvous net;
-    CHECK(tally_rendezvous_fresh(&net, two_classes) == 0);
+    CHECK(tally_rendezvous_fresh(&net, &kept, two_classes, 0) == 0);
     CHECK(is(&net.stations[1], both(held(7, 0), held(0, 1)), 5, 0, 2, TALLY_ASLEEP));
     for (unsigned i = 0; i < 3; i++) {
         net.stations[i].held.sums[2] = UINT64_MAX - i;
@@ -60,8 +63,8 @@ static void classes(void)
     }
     struct tally_rendezvous wide = net;
     wide.config.classes = 3;
-    CHECK(tally_rendezvous_draw(&wide, 0) == 11);
-    CHECK(tally_rendezvous_run(&net, draws, 7).answer == 256);
+    CHECK(tally_rendezvous_draw(&wide, &kept, 0) == 11);
+    CHECK(tally_rendezvous_run(&net, &kept, draws, 7).answer == 256);
     const struct tally_aggregate reported = {{23, 7, UINT64_MAX}, {0, 1, 255}};
     CHECK(is(&net.stations[0], reported, 0, 0, 0, TALLY_FINISHED));
 }
@@ -72,40 +75,81 @@ static void desks(void)
 {
     static const uint16_t draws[7] = {0};
     struct tally_rendezvous net;
-    CHECK(tally_rendezvous_fresh(&net, desk_at_2) == 0 && net.config.desk == 2);
+    CHECK(tally_rendezvous_fresh(&net, &kept, desk_at_2, 0) == 0 && net.config.desk == 2);
     CHECK(is(&net.stations[0], held(5, 0), 6, 2, 2, TALLY_ASLEEP) && is(&net.stations[2], held(11, 0), 3, 2, 2, TALLY_ACTIVE));
-    CHECK(tally_rendezvous_step(&net, TALLY_REPORT, 0, 0) == 12 && tally_rendezvous_step(&net, TALLY_REPORT, 2, 2) == 13);
-    CHECK(made(tally_rendezvous_draw(&net, 0), TALLY_WAKE, 2, 0));
-    CHECK(tally_rendezvous_run(&net, draws, 5).answer == 0);
-    CHECK(made(tally_rendezvous_draw(&net, 0), TALLY_REPORT, 2, 2));
+    CHECK(tally_rendezvous_step(&net, &kept, TALLY_REPORT, 0, 0) == 12 && tally_rendezvous_step(&net, &kept, TALLY_REPORT, 2, 2) == 13);
+    CHECK(made(tally_rendezvous_draw(&net, &kept, 0), TALLY_WAKE, 2, 0));
+    CHECK(tally_rendezvous_run(&net, &kept, draws, 5).answer == 0);
+    CHECK(made(tally_rendezvous_draw(&net, &kept, 0), TALLY_REPORT, 2, 2));
     CHECK(is(&net.stations[2], held(23, 0), 0, 2, 0, TALLY_FINISHED));
 
     struct tally_map none = desk_at_2;
     none.desk = 3;
-    CHECK(tally_rendezvous_fresh(&net, none) == 19 && net.config.desk == 2);
+    CHECK(tally_rendezvous_fresh(&net, &kept, none, 0) == 19 && net.config.desk == 2);
     net.config.desk = 3;
-    CHECK(tally_rendezvous_step(&net, TALLY_REPORT, 3, 3) == 11 && tally_rendezvous_draw(&net, 0) == 11);
-    CHECK(tally_rendezvous_run(&net, draws, 1).answer == 11);
+    CHECK(tally_rendezvous_step(&net, &kept, TALLY_REPORT, 3, 3) == 11 && tally_rendezvous_draw(&net, &kept, 0) == 11);
+    CHECK(tally_rendezvous_run(&net, &kept, draws, 1).answer == 11);
+}
+
+/* Totals carried back: the triangle takes 2 × 3 + 3 steps, and ends with all three knowing 23. */
+static void told(void)
+{
+    static const uint16_t draws[16] = {0};
+    static struct tally_kept others;
+    struct tally_rendezvous net;
+    memset(&kept, 0xa5, sizeof kept);
+    CHECK(tally_rendezvous_fresh(&net, &kept, triangle, 1) == 0 && net.carrying == 1);
+    const struct tally_aggregate nothing = {{0}, {0}}, total = {{23}, {0}};
+    for (unsigned i = 0; i < TALLY_STATIONS; i++)
+        CHECK(same_held(&kept.totals[i], &nothing));
+    CHECK(tally_rendezvous_step(&net, &kept, TALLY_TELL, 0, 1) == 13 && tally_rendezvous_step(&net, &kept, TALLY_TELL + 1, 0, 1) == 12);
+    struct tally_run run = tally_rendezvous_run(&net, &kept, draws, 7);
+    CHECK(run.answer == 0 && run.steps == 7 && net.stations[0].state == TALLY_FINISHED);
+    CHECK(tally_rendezvous_step(&net, &kept, TALLY_TELL, 1, 2) == 13 && tally_rendezvous_step(&net, &kept, TALLY_TELL, 1, 0) == 13);
+    CHECK(made(tally_rendezvous_draw(&net, &kept, 1), TALLY_TELL, 0, 2));
+    CHECK(net.stations[2].state == TALLY_TOLD && same_held(&kept.totals[2], &total) && same_held(&kept.totals[1], &nothing));
+    run = tally_rendezvous_run(&net, &kept, draws, 16);
+    CHECK(run.answer == 256 && run.steps == 1 && same_held(&kept.totals[1], &total) && same_held(&kept.totals[0], &nothing));
+    CHECK(is(&net.stations[1], held(7, 0), 0, 0, 0, TALLY_TOLD) && tally_rendezvous_draw(&net, &kept, 0) == 14);
+
+    /* any number but 0 opens for carrying back; in a net only 0 and 1 are in form */
+    struct tally_rendezvous other;
+    CHECK(tally_rendezvous_fresh(&other, &others, triangle, 255) == 0 && other.carrying == 1);
+    other = net;
+    other.carrying = 2;
+    CHECK(tally_rendezvous_draw(&other, &kept, 0) == 11);
+    other = net;
+    other.carrying = 0;
+    CHECK(tally_rendezvous_draw(&other, &kept, 0) == 11);
+    other = net;
+    other.stations[1].waits = 1;
+    CHECK(tally_rendezvous_draw(&other, &kept, 0) == 11);
+    other = net;
+    other.stations[0].state = TALLY_TOLD;
+    CHECK(tally_rendezvous_draw(&other, &kept, 0) == 11);
+    kept.totals[2].missing[0] = TALLY_MOST_MISSING + 1;
+    CHECK(tally_rendezvous_draw(&net, &kept, 0) == 11);
 }
 
 int main(void)
 {
     struct tally_rendezvous net;
-    CHECK(tally_rendezvous_fresh(&net, triangle) == 0);
+    CHECK(tally_rendezvous_fresh(&net, &kept, triangle, 0) == 0);
     CHECK(are_fresh(net.config, net.stations));
     refusals(&net);
-    CHECK(made(tally_rendezvous_step(&net, TALLY_WAKE, 0, 1), TALLY_WAKE, 0, 1));
-    CHECK(made(tally_rendezvous_draw(&net, 1), TALLY_WAKE, 1, 2));
+    CHECK(made(tally_rendezvous_step(&net, &kept, TALLY_WAKE, 0, 1), TALLY_WAKE, 0, 1));
+    CHECK(made(tally_rendezvous_draw(&net, &kept, 1), TALLY_WAKE, 1, 2));
     const uint16_t draws[7] = {0};
-    struct tally_run run = tally_rendezvous_run(&net, draws, 4);
+    struct tally_run run = tally_rendezvous_run(&net, &kept, draws, 4);
     CHECK(run.answer == 0 && run.steps == 4);
     CHECK(is(&net.stations[2], held(11, 0), 0, 1, 0, TALLY_FINISHED) && is(&net.stations[1], held(18, 0), 0, 0, 0, TALLY_FINISHED));
-    run = tally_rendezvous_run(&net, draws, 7);
+    run = tally_rendezvous_run(&net, &kept, draws, 7);
     CHECK(TALLY_NUMBER(run.answer) == 0 && TALLY_VALUE(run.answer) == 1 && run.steps == 1);
     CHECK(is(&net.stations[0], held(23, 0), 0, 0, 0, TALLY_FINISHED));
-    CHECK(tally_rendezvous_draw(&net, 0) == 14);
+    CHECK(tally_rendezvous_draw(&net, &kept, 0) == 14);
     missing();
     classes();
     desks();
+    told();
     return 0;
 }

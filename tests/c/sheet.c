@@ -3,6 +3,8 @@
 #include "triangle.h"
 #include <string.h>
 
+static struct tally_kept kept;
+
 static const char one[] = "             42                         \n"
                           " 0 1          5                         \n"
                           " 1 1          7                         \n"
@@ -24,8 +26,8 @@ static struct tally_rendezvous reported(struct tally_map map)
 {
     static const uint16_t draws[7] = {0, 1};
     struct tally_rendezvous net;
-    CHECK(tally_rendezvous_fresh(&net, map) == 0);
-    CHECK(tally_rendezvous_run(&net, draws, 7).answer == 256);
+    CHECK(tally_rendezvous_fresh(&net, &kept, map, 0) == 0);
+    CHECK(tally_rendezvous_run(&net, &kept, draws, 7).answer == 256);
     return net;
 }
 
@@ -35,11 +37,11 @@ static void laid(struct tally_map map, const char *lines, size_t length)
     const struct tally_rendezvous net = reported(map);
     CHECK(length == TALLY_SHEET_LENGTH(map.k, map.classes));
     memset(bytes, 0xa5, sizeof bytes);
-    CHECK(tally_sheet(map, &net, bytes, length - 1) == 15 + 256 * length && bytes[0] == 0xa5);
-    CHECK(tally_sheet(map, &net, bytes, length) == 256 * length);
+    CHECK(tally_sheet(map, &net, &kept, bytes, length - 1) == 15 + 256 * length && bytes[0] == 0xa5);
+    CHECK(tally_sheet(map, &net, &kept, bytes, length) == 256 * length);
     CHECK(memcmp(bytes, lines, length) == 0 && bytes[length] == 0xa5);
     memset(bytes, 0xa5, sizeof bytes);
-    CHECK(tally_sheet(map, &net, bytes, sizeof bytes) == 256 * length);
+    CHECK(tally_sheet(map, &net, &kept, bytes, sizeof bytes) == 256 * length);
     CHECK(memcmp(bytes, lines, length) == 0 && bytes[length] == 0xa5);
 }
 
@@ -47,7 +49,7 @@ static void refused(struct tally_map map, const struct tally_rendezvous *net, ui
 {
     uint8_t bytes[TALLY_SHEET_LINE * 5];
     memset(bytes, 0xa5, sizeof bytes);
-    CHECK(tally_sheet(map, net, bytes, sizeof bytes) == answer);
+    CHECK(tally_sheet(map, net, &kept, bytes, sizeof bytes) == answer);
     for (size_t i = 0; i < sizeof bytes; i++)
         CHECK(bytes[i] == 0xa5);
 }

@@ -8,7 +8,8 @@
 #include <string.h>
 #include <ucontext.h>
 
-enum { SIZE = 1 << 22, PAINT = 0xa5, MOST_DRAWS = 4034 };
+/* A wave on 64 stations all linked has 2 × 2,016 + 1 steps, and where totals are carried back 63 tells follow; one draw is left over. */
+enum { SIZE = 1 << 22, PAINT = 0xa5, WAVE = 4033, MOST_DRAWS = WAVE + 63 + 1 };
 
 static _Alignas(64) uint8_t stack[SIZE];
 static ucontext_t caller, callee;
@@ -33,6 +34,8 @@ static size_t used(void (*act)(void))
 /* What the calls are lent. */
 static struct tally_map map;
 static struct tally_rendezvous net;
+static struct tally_kept kept;
+static uint8_t carrying, head;
 static struct tally_line line;
 static struct tally_mail mail;
 static struct tally_process process;
@@ -50,11 +53,12 @@ static void map_read(void) { answer = tally_map_read(&map, bytes, sizeof bytes);
 static void map_write(void) { answer = tally_map_write(map, bytes, sizeof bytes); }
 static void map_accept(void) { answer = tally_map_accept(map); }
 static void map_links(void) { answer = tally_map_links(map); }
-static void meet_fresh(void) { answer = tally_rendezvous_fresh(&net, map); }
-static void meet_step(void) { answer = tally_rendezvous_step(&net, TALLY_WAKE, 0, 1); }
-static void meet_draw(void) { answer = tally_rendezvous_draw(&net, 9640); }
-static void meet_run(void) { answer = tally_rendezvous_run(&net, draws, MOST_DRAWS).answer; }
-static void sheet(void) { answer = tally_sheet(map, &net, lines, sizeof lines); }
+static void meet_fresh(void) { answer = tally_rendezvous_fresh(&net, &kept, map, carrying); }
+static void meet_step(void) { answer = tally_rendezvous_step(&net, &kept, TALLY_WAKE, 0, 1); }
+static void meet_tell(void) { answer = tally_rendezvous_step(&net, &kept, TALLY_TELL, net.stations[head].parent, head); }
+static void meet_draw(void) { answer = tally_rendezvous_draw(&net, &kept, 9640); }
+static void meet_run(void) { answer = tally_rendezvous_run(&net, &kept, draws, MOST_DRAWS).answer; }
+static void sheet(void) { answer = tally_sheet(map, &net, &kept, lines, sizeof lines); }
 static void mail_fresh(void) { answer = tally_mailbox_fresh(&line, &mail, map); }
 static void mail_step(void) { answer = tally_mailbox_step(&line, &mail, TALLY_DELIVERY, 0, 1); }
 static void mail_draw(void) { answer = tally_mailbox_draw(&line, &mail, 9640); }
@@ -132,26 +136,59 @@ static void fresh_nets(void)
     mail_fresh();
 }
 
-static void nets(void)
+static void meetings(void)
 {
-    for (unsigned i = 0; i < MOST_DRAWS; i++)
-        draws[i] = (uint16_t)(40503 * i);
     all_linked();
     measure("tally_rendezvous_fresh", TALLY_RENDEZVOUS_STACK, meet_fresh, spoil_map);
-    all_linked();
-    measure("tally_mailbox_fresh", TALLY_MAILBOX_STACK, mail_fresh, spoil_map);
     fresh_nets();
     measure("tally_rendezvous_step", TALLY_RENDEZVOUS_STACK, meet_step, spoil_net);
-    measure("tally_mailbox_step", TALLY_MAILBOX_STACK, mail_step, spoil_line);
     fresh_nets();
     measure("tally_rendezvous_draw", TALLY_RENDEZVOUS_STACK, meet_draw, spoil_net);
-    measure("tally_mailbox_draw", TALLY_MAILBOX_STACK, mail_draw, spoil_line);
     fresh_nets();
     measure("tally_rendezvous_run", TALLY_RENDEZVOUS_STACK, meet_run, spoil_net);
     fresh_nets();
     meet_run();
     measure("tally_sheet", TALLY_SHEET_STACK, sheet, spoil_net);
+}
+
+/* Opened for carrying back, after the report: only tells are left. The desk is station 0. */
+static void reported(void)
+{
+    fresh_nets();
+    CHECK(tally_rendezvous_run(&net, &kept, draws, WAVE).answer == 0 && net.stations[0].state == TALLY_FINISHED);
+    for (head = 1; net.stations[head].parent != 0;)
+        head++;
+}
+
+static void tells(void)
+{
+    reported();
+    measure("tally_rendezvous_step", TALLY_RENDEZVOUS_STACK, meet_tell, spoil_net);
+    reported();
+    measure("tally_rendezvous_draw", TALLY_RENDEZVOUS_STACK, meet_draw, spoil_net);
+}
+
+static void mail_nets(void)
+{
+    all_linked();
+    measure("tally_mailbox_fresh", TALLY_MAILBOX_STACK, mail_fresh, spoil_map);
+    fresh_nets();
+    measure("tally_mailbox_step", TALLY_MAILBOX_STACK, mail_step, spoil_line);
+    fresh_nets();
+    measure("tally_mailbox_draw", TALLY_MAILBOX_STACK, mail_draw, spoil_line);
+    fresh_nets();
     measure("tally_mailbox_run", TALLY_MAILBOX_STACK, mail_run, spoil_line);
+}
+
+static void nets(void)
+{
+    for (unsigned i = 0; i < MOST_DRAWS; i++)
+        draws[i] = (uint16_t)(40503 * i);
+    meetings();
+    carrying = 1;
+    meetings();
+    tells();
+    mail_nets();
 }
 
 int main(void)

@@ -1,12 +1,13 @@
 use super::stations::{are_in_form, fresh as fresh_stations, in_state, is_bounded, is_in_range, join, member};
 use super::Refusal;
+use conformance::model::aggregate::Aggregate;
 use conformance::model::map::Map;
-use conformance::model::meet::{Meet, ANSWER, PASS, REPORT, WAKE};
+use conformance::model::meet::{Meet, ANSWER, PASS, REPORT, WAKE, WITHOUT};
 use conformance::model::net::{Config, Step};
 use conformance::model::station::{Station, ACTIVE, ASLEEP, FINISHED};
 
 pub fn fresh(map: &Map) -> Meet {
-    Meet { config: Config::of(map), stations: fresh_stations(map) }
+    Meet { config: Config::of(map), stations: fresh_stations(map), carrying: WITHOUT, kept: [Aggregate::default(); 64] }
 }
 
 pub fn step(net: &mut Meet, step: Step) -> Result<Step, Refusal> {
@@ -51,19 +52,19 @@ pub fn run(net: &mut Meet, draws: &[u16]) -> Result<(usize, bool), usize> {
 }
 
 /// Which stations are asleep and which active, kept up to date.
-struct Awake {
+pub struct Awake {
     asleep: u64,
     active: u64,
 }
 
 impl Awake {
-    fn of(net: &Meet) -> Awake {
+    pub fn of(net: &Meet) -> Awake {
         let set = |state| in_state(net.config.k, &net.stations, state);
         Awake { asleep: set(ASLEEP), active: set(ACTIVE) }
     }
 
     /// Entry d mod c of the allowed steps.
-    fn pick(&self, net: &Meet, draw: u16) -> Option<Step> {
+    pub fn pick(&self, net: &Meet, draw: u16) -> Option<Step> {
         let desk = net.config.desk;
         let (mut wakes, mut passes, mut ready) = (0, 0, 0u64);
         let mut senders = self.active;
@@ -111,7 +112,7 @@ impl Awake {
         }
     }
 
-    fn follow(&mut self, Step { kind, sender, receiver }: Step) {
+    pub fn follow(&mut self, Step { kind, sender, receiver }: Step) {
         match kind {
             WAKE => {
                 self.asleep &= !(1 << receiver);
@@ -123,7 +124,7 @@ impl Awake {
     }
 }
 
-fn is_allowed(net: &Meet, Step { kind, sender, receiver }: Step) -> bool {
+pub fn is_allowed(net: &Meet, Step { kind, sender, receiver }: Step) -> bool {
     let (from, to) = (&net.stations[usize::from(sender)], &net.stations[usize::from(receiver)]);
     from.state == ACTIVE
         && match kind {
@@ -139,7 +140,7 @@ fn is_allowed(net: &Meet, Step { kind, sender, receiver }: Step) -> bool {
         }
 }
 
-fn make(net: &mut Meet, Step { kind, sender, receiver }: Step) {
+pub fn make(net: &mut Meet, Step { kind, sender, receiver }: Step) {
     if kind == REPORT {
         net.stations[usize::from(sender)].state = FINISHED;
         return;

@@ -1,6 +1,7 @@
 //! The same calls as a Rust programmer would write them for speed: sets are words, and only what a step touched is looked
 //! at again. The records are the model's; its rules are not used.
 
+pub mod back;
 #[cfg(feature = "mail")]
 pub mod mail;
 pub mod map;

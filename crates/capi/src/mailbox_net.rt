@@ -68,6 +68,5 @@ pub extern "C" fn tally_mailbox_run(
     ensures spare { λ _. ⌜ spareIn (now (line .exit)) ≡ spareIn (now (line .entry)) ⌝ }
 {
     let ran = mailbox::run(line, boxes, draws);
-    let answer = ran.answer;
-    crate::steps::run_answer(answer, ran.steps, ran.at_rest)
+    crate::steps::run_answer(ran)
 }

@@ -1,4 +1,4 @@
-// The grower sheet: laid out in lent bytes, of a map and the words of its net.
+// The grower sheet: laid out in lent bytes, of a map and the words of its net and of what that keeps.
 use linemap::Map;
 use sheet::SheetAnswer;
 use sheet::SheetFault;
@@ -36,9 +36,14 @@ fn laid(answer: SheetAnswer) -> u64
 
 // The sheet of a map and its net, from the first byte.
 #[no_mangle]
-pub extern "C" fn tally_sheet(map: Map, net: &[u64; 705], bytes: &mut [u8]) -> u64
-    ensures { λ r. ⌜ called r (now (bytes .exit)) ≡ sheetCall (sheetOn map (netIn (now (net .entry))) (now (bytes .entry))) ⌝ }
+pub extern "C" fn tally_sheet(
+    map: Map,
+    net: &[u64; 705],
+    kept: &[u64; 576],
+    bytes: &mut [u8],
+) -> u64
+    ensures { λ r. ⌜ called r (now (bytes .exit)) ≡ sheetCall (sheetOn map (netIn (now (net .entry)) (now (kept .entry))) (now (bytes .entry))) ⌝ }
 {
-    let answer = sheet::put_sheet(map, net, bytes);
+    let answer = sheet::put_sheet(map, net, kept, bytes);
     laid(answer)
 }

@@ -1,5 +1,6 @@
 // What steps, draws and runs answer, of either kind of net.
 use schedule::Answer;
+use schedule::Ran;
 use schedule::RunAnswer;
 ghost use mathlib.Core.Path.{_≡_};
 ghost use mathlib.Core.Bool.{cond};
@@ -41,11 +42,12 @@ fn bit(b: bool) -> u32
     if b { 1 } else { 0 }
 }
 
-pub(crate) fn run_answer(answer: RunAnswer, steps: usize, at_rest: bool) -> Run
-    ensures { λ r. ⌜ r ≡ runOf (runNumberOf answer) steps «at_rest» ⌝ }
+pub(crate) fn run_answer(ran: Ran) -> Run
+    ensures { λ r. ⌜ r ≡ runOf (runNumberOf (ran .answer)) (ran .steps) (ran .«at_rest») ⌝ }
 {
+    let answer = ran.answer;
     Run {
-        answer: crate::map::with_value(run_number(answer), bit(at_rest)),
-        steps: steps as u64,
+        answer: crate::map::with_value(run_number(answer), bit(ran.at_rest)),
+        steps: ran.steps as u64,
     }
 }

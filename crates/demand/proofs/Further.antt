@@ -1,8 +1,9 @@
 -- What else is claimed, once for both kinds of net. Single steps accept what is allowed, so the list that draws pick from is that of the steps
 -- accepted, and rest is that none is; after the report a net is at rest, where no call moves it. Assumes nothing.
-use mathlib.Core.Path.{_≡_, sym, ap, _∙_, subst}
+use mathlib.Core.Path.{_≡_, refl, sym, ap, _∙_, subst}
 use mathlib.Core.Bool.{true, cond}
-use mathlib.Core.List.{List, [], _∷_, map, List·Memᴰ, append-nil}
+use mathlib.Core.List.{List, [], _∷_, List·Memᴰ, append-nil}
+use mathlib.Core.Logic.{_↔_}
 use Prim.Native.Nat.{ℕ, _+_, _*_, _%_, min}
 use native.Mathlib.Omega.{arith}
 use lib.Dec.{eqb}
@@ -10,6 +11,7 @@ use lib.ListN.{length, getD, length-map}
 use borrow.Author.Tests.{eq-eqb}
 use Rattle.refusal.specs.declared.Refusal.the-variants.{NothingAllowed}
 use Rattle.wave.specs.internal.Claim.{AtRest}
+use Rattle.linemap.specs.declared.Map.{Map}
 use Rattle.linemap.specs.Maps.{linkCount}
 use Rattle.linemap.specs.Reading.{readAs, reading}
 use Rattle.linemap.proofs.Accepted.{read-accepted}
@@ -26,12 +28,13 @@ use Rattle.schedule.proofs.Made.{stopped-net}
 use Rattle.schedule.proofs.Runs.{run-steps, run-is-draws}
 use Rattle.schedule.proofs.Resting.{accepted-allowed, accepted-listed, draw-entry, rest-refuses, rest-step, rest-draw, rest-run, rest-calls, run-formed, run-rests}
 use Rattle.order.proofs.RendezvousOrder.{rendezvous-order, rendezvous-conserved}
+use Rattle.order.proofs.RendezvousBack.{rendezvous-carried, carried-conserved}
 use Rattle.order.proofs.MailboxOrder.{mailbox-order}
-use Rattle.demand.specs.Kinds.{Kind, meeting, mailing, made, left, reports}
+use Rattle.demand.specs.Kinds.{Kind, meeting, carrying, mailing, made, left, steps, reports}
 use Rattle.demand.specs.Demand.{OnEveryMap}
-use Rattle.demand.specs.Further.{DrawsPick, RestIsRest, Final, RunIsDraws, FreshRun, OfKind, Conserved, Read, Further}
+use Rattle.demand.specs.Further.{DrawsPick, RestIsRest, Final, RunIsDraws, FreshRun, OfKind, EndsInReport, Conserved, Read, Further}
 use Rattle.demand.proofs.Counted.{reports-counted}
-use Rattle.demand.proofs.Demand.{Orderly}
+use Rattle.demand.proofs.Demand.{Orderly, Whole, reports-made}
 
 module _ {Net : Type 0} (R : Rules Net) (net : Net) where
   draws-pick : R .wellFormed net ≡ true → DrawsPick R net
@@ -61,7 +64,7 @@ module _ {Net : Type 0} (R : Rules Net) (net : Net) where
       let same = run-is-draws R net draws in
       record { made-as = same .0; left-as = stopped-net R (runNet R net draws) (length (runMade R net draws)) ∙ same .1; counted = run-steps R net draws }
 
-  rest-final : R .wellFormed net ≡ true → AtRest (Allowed R) net → Final R net
+  pub rest-final : R .wellFormed net ≡ true → AtRest (Allowed R) net → Final R net
   rest-final formed rest =
       record {
         no-step = rest-step R net formed rest;
@@ -70,46 +73,56 @@ module _ {Net : Type 0} (R : Rules Net) (net : Net) where
         no-call = rest-calls R net formed rest;
       }
 
-module _ (K : Kind) (orderly : Orderly K) where
+-- A run of the fresh net, from the formula for its steps and from how many were made where it is at rest.
+pub fresh-run : (K : Kind) (full : ℕ) (m : Map) (draws : List ℕ) → let end = left K m (run draws ∷ []) in
+    runOn (K .rules) (K .fresh m) draws .steps ≡ min (length draws) full → K .rules .wellFormed end ≡ true
+    → AtRest (Allowed (K .rules)) end ↔ (length (made K m (run draws ∷ [])) ≡ full) → FreshRun K full m draws
+unfolding callsMade callsNet callMade callNet
+fresh-run K full m draws formula formed at-full =
+    let R = K .rules in
+    let fresh = K .fresh m in
+    let rests = run-rests R fresh draws formed in
+    let many : length (made K m (run draws ∷ [])) ≡ min (length draws) full =
+    ap length (append-nil (runMade R fresh draws)) ∙ sym (run-steps R fresh draws) ∙ formula in
+    record {
+      steps = formula;
+      rest = (λ r. let e = at-full .0 (rests .0 r) in omega (arith, e, many), λ enough. rests .1 (at-full .1 (omega (arith, many, enough))));
+    }
+
+module _ (K : Kind) (orderly : Orderly K) (whole : Whole K) where
   final : OnEveryMap (λ m calls. reports K m calls ≡ 1 → Final (K .rules) (left K m calls))
   final m fits good calls e =
       let order = orderly m fits good .order in
       rest-final (K .rules) (left K m calls) (order .formed calls)
-      (order .demand calls .report-rest .0 (reports-counted K (made K m calls) ∙ e))
+      (order .demand calls .report-rest .0 (reports-made K whole m calls ∙ e))
 
-  fresh-run : OnEveryMap (FreshRun K)
-  unfolding callsMade callsNet callMade callNet
-  fresh-run m fits good draws =
-      let R = K .rules in
-      let fresh = K .fresh m in
-      let calls = run draws ∷ [] in
-      let order = orderly m fits good .order in
-      let d = order .demand calls in
-      let rests = run-rests R fresh draws (order .formed calls) in
-      let many : length (map (labelOf R) (callsMade R fresh calls)) ≡ min (length draws) (2 * linkCount m + 1) =
-      length-map (callsMade R fresh calls) (labelOf R) ∙ ap length (append-nil (runMade R fresh draws)) ∙ sym (run-steps R fresh draws)
-      ∙ order .run-formula draws in
+  ends-in-report : EndsInReport K
+  ends-in-report =
       record {
-        steps = order .run-formula draws;
-        rest = (
-          λ r. let full = d .report-full .0 (d .report-rest .1 (rests .0 r)) in omega arith,
-          λ enough. rests .1 (d .report-rest .0 (d .report-full .1 (omega arith))),
-        );
-      }
-
-  of-kind : OfKind K
-  of-kind =
-      record {
-        draws-pick = draws-pick (K .rules);
-        rest-is-rest = rest-is-rest (K .rules);
-        run-is-draws = runs-as-draws (K .rules);
-        formed = λ m fits good calls. orderly m fits good .order .formed calls;
         final = final;
-        fresh-run = fresh-run;
+        fresh-run = λ m fits good draws.
+            let order = orderly m fits good .order in
+            let calls = run draws ∷ [] in
+            let d = order .demand calls in
+            let labels = length-map (made K m calls) (labelOf (K .rules)) in
+            fresh-run K (2 * linkCount m + 1) m draws (order .run-formula draws) (order .formed calls)
+            (λ r. sym labels ∙ d .report-full .0 (d .report-rest .1 r), λ e. d .report-rest .0 (d .report-full .1 (labels ∙ e)));
       }
 
-conserved : Conserved
-conserved m fits good calls none = rendezvous-conserved m fits good calls (reports-counted meeting (made meeting m calls) ∙ none)
+of-kind : (K : Kind) → OnEveryMap (λ m calls. K .rules .wellFormed (left K m calls) ≡ true) → OfKind K
+of-kind K formed =
+    record {
+      draws-pick = draws-pick (K .rules);
+      rest-is-rest = rest-is-rest (K .rules);
+      run-is-draws = runs-as-draws (K .rules);
+      formed = formed;
+    }
+
+conserved : Conserved meeting
+conserved m fits good calls none = rendezvous-conserved m fits good calls (reports-made meeting (λ s. refl) m calls ∙ none)
+
+carried : Conserved carrying
+carried m fits good calls none = carried-conserved m fits good calls (reports-counted carrying (steps carrying m calls) ∙ none)
 
 read : Read
 read s byte ok =
@@ -120,8 +133,15 @@ read s byte ok =
 pub further : Further
 further =
     record {
-      stations-that-meet = of-kind meeting rendezvous-order;
-      stations-with-mail = of-kind mailing mailbox-order;
-      conserved = conserved;
+      stations-that-meet = (
+        of-kind meeting (λ m fits good. rendezvous-order m fits good .order .formed),
+        ends-in-report meeting rendezvous-order (λ s. refl),
+      );
+      carrying-back = of-kind carrying (λ m fits good. rendezvous-carried m fits good .formed);
+      stations-with-mail = (
+        of-kind mailing (λ m fits good. mailbox-order m fits good .order .formed),
+        ends-in-report mailing mailbox-order (λ s. refl),
+      );
+      conserved = (conserved, carried);
       read = read;
     }

@@ -1,3 +1,4 @@
 pub mod Counted
 pub mod Demand
 pub mod Further
+pub mod Carrying

@@ -16,7 +16,7 @@ use Rattle.schedule.specs.declared.Step.{Step}
 use Rattle.schedule.specs.Listing.{step}
 use Rattle.schedule.specs.Draws.{stepOn}
 use Rattle.schedule.specs.Calls.{Call}
-use Rattle.demand.specs.Kinds.{Kind, meeting, mailing, deskReport, deskHeld, made, left, reports, messages}
+use Rattle.demand.specs.Kinds.{Kind, meeting, carrying, mailing, deskReport, deskHeld, left, steps, reports, messages}
 
 -- what holds on one map after one list of calls
 pub record Holds (K : Kind) (m : Map) (calls : List Call) : Type 0 where
@@ -26,12 +26,12 @@ pub record Holds (K : Kind) (m : Map) (calls : List Call) : Type 0 where
   pub carried-once : (i j : ℕ) → messages K m calls i j ≤ 1
   -- a message is "carried by the link of its two stations" (Lists of calls): no other pair has carried one
   pub by-links : (i j : ℕ) → linked (m .k) (m .neighbours) i j ≡ false → messages K m calls i j ≡ 0
-  -- "The report has been made exactly when no step is allowed any more,": every single step is refused
-  pub report-rest : (reports K m calls ≡ 1) ↔ ((s : Step) → stepOn (K .rules) (left K m calls) s .number ≡ 0 → ⊥)
+  -- "The report has been made exactly when no step is allowed any more,": every single step that is counted is refused
+  pub report-rest : (reports K m calls ≡ 1) ↔ ((s : Step) → K .counts s ≡ true → stepOn (K .rules) (left K m calls) s .number ≡ 0 → ⊥)
   -- "and exactly when 2 × m + 1 steps have been made."
-  pub report-full : (reports K m calls ≡ 1) ↔ (length (made K m calls) ≡ 2 * linkCount m + 1)
+  pub report-full : (reports K m calls ≡ 1) ↔ (length (steps K m calls) ≡ 2 * linkCount m + 1)
   -- "Then the report was the last of them,": "Every order must now end in that desk's report" (document 02, request 5)
-  pub report-last : reports K m calls ≡ 1 → getD (made K m calls) (length (made K m calls) - 1) (step 0 0 0) ≡ deskReport K m
+  pub report-last : reports K m calls ≡ 1 → getD (steps K m calls) (length (steps K m calls) - 1) (step 0 0 0) ≡ deskReport K m
   -- "the number reported is the sum of all the map's counts,": "the sum over heads with a reading, together with how many had none, in every
   -- order of steps" (document 02, request 1), "so that each class reports its own total" (request 2)
   pub number-reported : reports K m calls ≡ 1 → (j : ℕ) → j < m .classes → cell (deskHeld K m (left K m calls)) j ≡ totals m j
@@ -47,4 +47,5 @@ OnEveryMap {A = A} Claim = (m : Map) → Fits m → acceptance m ≡ accepted �
 -- make it report twice, or make it report another number."
 pub record Demand : Type 0 where
   pub stations-that-meet : OnEveryMap (Holds meeting)
+  pub carrying-back : OnEveryMap (Holds carrying)
   pub stations-with-mail : OnEveryMap (Holds mailing)

@@ -19,13 +19,13 @@ use Rattle.schedule.specs.Listing.{select, step, candidates}
 use Rattle.schedule.specs.Outcome.{stepRefused}
 use Rattle.schedule.specs.Draws.{stepOn, drawOn, runOn}
 use Rattle.schedule.specs.Calls.{Call, draw, run, callMade, callNet, callsMade, callsNet}
-use Rattle.demand.specs.Kinds.{Kind, meeting, mailing, left, reports}
+use Rattle.demand.specs.Kinds.{Kind, meeting, carrying, mailing, left, reports}
 use Rattle.demand.specs.Demand.{OnEveryMap}
 
 module _ {Net : Type 0} (R : Rules Net) where
   -- "the c allowed steps", as those that a single step would accept, "listed by kind, then sender, then receiver, rising"
   abbrev pub acceptable : Net → List Step
-  acceptable net = select (λ s. eqb (stepOn R net s .number) 0) (candidates (R .kinds) (R .stations net))
+  acceptable net = select (λ s. eqb (stepOn R net s .number) 0) (candidates (R .kinds net) (R .stations net))
 
   -- in a net in form
   pub record DrawsPick (net : Net) : Type 0 where
@@ -54,29 +54,32 @@ module _ {Net : Type 0} (R : Rules Net) where
     pub no-run : (draws : List ℕ) → runOn R net draws ≡ record { number = 0; steps = 0; rest = true; net = net }
     pub no-call : (calls : List Call) → (callsMade R net calls ≡ []) × (callsNet R net calls ≡ net)
 
--- a run of the fresh net
-pub record FreshRun (K : Kind) (m : Map) (draws : List ℕ) : Type 0 where
+-- a run of the fresh net, where a full run has so many steps
+pub record FreshRun (K : Kind) (full : ℕ) (m : Map) (draws : List ℕ) : Type 0 where
   -- "From a fresh net that number is the smaller of the draw count and 2 × m + 1" (Stations that meet)
-  pub steps : runOn (K .rules) (K .fresh m) draws .steps ≡ min (length draws) (2 * linkCount m + 1)
+  pub steps : runOn (K .rules) (K .fresh m) draws .steps ≡ min (length draws) full
   -- so it is at rest where there were enough draws
-  pub rest : (runOn (K .rules) (K .fresh m) draws .rest ≡ true) ↔ (2 * linkCount m + 1 ≤ length draws)
+  pub rest : (runOn (K .rules) (K .fresh m) draws .rest ≡ true) ↔ (full ≤ length draws)
 
--- what is claimed of a kind of net
+-- what is claimed of every kind of net
 pub record OfKind (K : Kind) : Type 0 where
   pub draws-pick : (net : K .Net) → K .rules .wellFormed net ≡ true → DrawsPick (K .rules) net
   pub rest-is-rest : (net : K .Net) (draws : List ℕ) → RestIsRest (K .rules) net draws
   pub run-is-draws : (net : K .Net) (draws : List ℕ) → RunIsDraws (K .rules) net draws
   -- every net that calls lead to is in form, so number 11 never comes
   pub formed : OnEveryMap (λ m calls. K .rules .wellFormed (left K m calls) ≡ true)
+
+-- what is claimed besides where no step follows the report; `Carried` has what takes its place where totals are carried back
+pub record EndsInReport (K : Kind) : Type 0 where
   -- after the report nothing moves
   pub final : OnEveryMap (λ m calls. reports K m calls ≡ 1 → Final (K .rules) (left K m calls))
-  pub fresh-run : OnEveryMap (FreshRun K)
+  pub fresh-run : OnEveryMap (λ m draws. FreshRun K (2 * linkCount m + 1) m draws)
 
 -- "Before the report the sums of stations not finished add up to the map's total" (Stations that meet), class by class
-abbrev pub Conserved : Type 0
-Conserved =
+abbrev pub Conserved : Kind → Type 0
+Conserved K =
     OnEveryMap (λ m calls.
-    reports meeting m calls ≡ 0 → (j : ℕ) → j < m .classes → unfinished (m .k) (meeting .station (left meeting m calls)) j ≡ totals m j)
+    reports K m calls ≡ 0 → (j : ℕ) → j < m .classes → unfinished (m .k) (K .station (left K m calls)) j ≡ totals m j)
 
 -- a map that was read fits its fields and is accepted, so all of this holds of it
 abbrev pub Read : Type 0
@@ -86,7 +89,9 @@ Read =
 
 -- all of it
 pub record Further : Type 0 where
-  pub stations-that-meet : OfKind meeting
-  pub stations-with-mail : OfKind mailing
-  pub conserved : Conserved
+  pub stations-that-meet : OfKind meeting × EndsInReport meeting
+  pub carrying-back : OfKind carrying
+  pub stations-with-mail : OfKind mailing × EndsInReport mailing
+  -- with mail, sums are on their way too
+  pub conserved : Conserved meeting × Conserved carrying
   pub read : Read

@@ -1,6 +1,6 @@
 -- What demand 3 speaks of (document 01, "Lists of calls"): a kind of net, and of a list of calls the steps made, the reports and messages
 -- among them, and the net left. Said by what the calls answer; nothing of how it is proved.
-use mathlib.Core.Bool.{Bool, not, _&&_}
+use mathlib.Core.Bool.{Bool, true, false, not, _&&_}
 use mathlib.Core.List.{List}
 use Prim.Native.Nat.{ℕ}
 use lib.Dec.{eqb}
@@ -15,27 +15,54 @@ use Rattle.schedule.specs.Rules.{Rules}
 use Rattle.schedule.specs.Listing.{select, step}
 use Rattle.schedule.specs.Calls.{Call, callsMade, callsNet}
 use Rattle.rendezvous.specs.Net as rendezvous-net
+use Rattle.rendezvous.specs.Telling.{isTell}
 use Rattle.rendezvous.specs.Rules as rendezvous-rules
 use Rattle.rendezvous.specs.Opening as rendezvous-opening
 use Rattle.mailbox.specs.Net as mailbox-net
 use Rattle.mailbox.specs.Rules as mailbox-rules
 use Rattle.mailbox.specs.Opening as mailbox-opening
 
--- a kind of net: its rules, the fresh net of a map, and the stations of a net
+-- a kind of net: its rules, the fresh net of a map, the stations of a net, and which steps demand 3 counts, of all that are made
 pub record Kind : Type 1 where
   pub Net : Type 0
   pub rules : Rules Net
   pub fresh : Map → Net
   pub station : Net → ℕ → Station
+  pub counts : Step → Bool
 
 -- "Stations that meet"
 abbrev pub meeting : Kind
 meeting =
-    record { Net = rendezvous-net.Net; rules = rendezvous-rules.rules; fresh = rendezvous-opening.freshOn; station = rendezvous-net.station }
+    record {
+      Net = rendezvous-net.Net;
+      rules = rendezvous-rules.rules;
+      fresh = rendezvous-opening.freshOn false;
+      station = rendezvous-net.station;
+      counts = λ s. true;
+    }
+
+-- "A net of stations that meet may be opened for carrying back" (document 02, request 8): "in demand 3 the steps made, the steps allowed, the report
+-- as the last of them and the messages each way are those of kinds 1 to 4"
+abbrev pub carrying : Kind
+carrying =
+    record {
+      Net = rendezvous-net.Net;
+      rules = rendezvous-rules.rules;
+      fresh = rendezvous-opening.freshOn true;
+      station = rendezvous-net.station;
+      counts = λ s. not (isTell s);
+    }
 
 -- "Stations with mail"
 abbrev pub mailing : Kind
-mailing = record { Net = mailbox-net.Net; rules = mailbox-rules.rules; fresh = mailbox-opening.freshOn; station = mailbox-net.station }
+mailing =
+    record {
+      Net = mailbox-net.Net;
+      rules = mailbox-rules.rules;
+      fresh = mailbox-opening.freshOn;
+      station = mailbox-net.station;
+      counts = λ s. true;
+    }
 
 -- "that desk" (document 02, request 5): the map's
 abbrev pub desk : Map → ℕ
@@ -71,10 +98,14 @@ module _ (K : Kind) where
     abbrev pub left : K .Net
     left = callsNet (K .rules) (K .fresh m) calls
 
+    -- those that demand 3 counts
+    abbrev pub steps : List Step
+    steps = select (K .counts) made
+
     -- how often the desk has reported
     abbrev pub reports : ℕ
-    reports = howMany isReport made
+    reports = howMany isReport steps
 
     -- how many messages have gone from i to j
     abbrev pub messages : ℕ → ℕ → ℕ
-    messages i j = howMany (isMessage i j) made
+    messages i j = howMany (isMessage i j) steps

@@ -1,3 +1,4 @@
 pub mod Kinds
 pub mod Demand
 pub mod Further
+pub mod Carrying

@@ -1,6 +1,7 @@
 -- The thirteen examples of document 01's "Edges" that are marked *, typed from there, with what it says of each. `table-holds` (proofs/Holds)
 -- is the theorem that the rules give each row.
 use mathlib.Core.Path.{_≡_}
+use mathlib.Core.Bool.{false}
 use mathlib.Core.List.{List, [], _∷_, _++_, map, flatMap}
 use Prim.Native.Nat.{ℕ}
 use Prim.Native.String.{String}
@@ -26,7 +27,7 @@ pub data Given : Type 0 where
 
 -- the net that a run of a map leaves
 abbrev pub netAfter : Map → List ℕ → Net
-netAfter m draws = runOn rules (freshOn m) draws .net
+netAfter m draws = runOn rules (freshOn false m) draws .net
 
 -- what the rules make of it: the bytes written, or the number of the call
 abbrev pub outcome : Given → List ℕ

@@ -126,3 +126,15 @@ pub all-below-ext : (n : ℕ) (p q : ℕ → Bool) → ((i : ℕ) → i < n → 
 unfolding allBelow
 all-below-ext zero p q h = refl
 all-below-ext (suc n) p q h = ap₂ (λ (a b : Bool). a && b) (all-below-ext n p q (λ i l. h i (omega arith))) (h n (omega arith))
+
+and-four : (a b c d : Bool) → (a && b && (c && d)) ≡ (a && c && (b && d))
+and-four true b true d = refl
+and-four true true false d = refl
+and-four true false false d = refl
+and-four false b c d = refl
+
+-- two tests below a bound are one
+pub all-below-both : (n : ℕ) (p q : ℕ → Bool) → (allBelow n p && allBelow n q) ≡ allBelow n (λ i. p i && q i)
+unfolding allBelow
+all-below-both zero p q = refl
+all-below-both (suc n) p q = and-four (allBelow n p) (p n) (allBelow n q) (q n) ∙ ap (λ (b : Bool). b && (p n && q n)) (all-below-both n p q)

@@ -4,3 +4,5 @@ pub mod Below
 pub mod Digits
 pub mod Hops
 pub mod Stores
+pub mod Lists
+pub mod Counting

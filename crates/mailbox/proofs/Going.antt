@@ -23,10 +23,11 @@ use Rattle.schedule.specs.declared.rows.Sizes.{Sizes}
 use Rattle.schedule.specs.Rules.{allowed}
 use Rattle.schedule.specs.Rows.{pickedBySize, totalOf}
 use Rattle.schedule.specs.internal.Rows.{Filled, others}
-use Rattle.schedule.specs.Draws.{runOn}
+use Rattle.schedule.specs.Listing.{listed}
+use Rattle.schedule.specs.Draws.{picked, runOn}
 use Rattle.schedule.proofs.Answers.{allowed-parts}
 use Rattle.schedule.proofs.Listing.{range-bounds, Bounds}
-use Rattle.schedule.proofs.Drawing.{drawn-allowed}
+use Rattle.schedule.proofs.Drawing.{total-is, of-list, drawn-allowed}
 use Rattle.schedule.proofs.Running.{Running, used-up-with, at-rest-with, goes-on-with, unformed-with}
 use Rattle.mail.specs.Mail.{mailboxBounded, boxAt, broughtAt}
 use Rattle.mailbox.specs.declared.listing.Takers.{Takers}
@@ -86,7 +87,7 @@ module _ {first : Net} {draws : List ℕ} {here : Net} {takers : Takers} {rows :
 
   pub ends-used : length draws ≤ made → {c : ℕ} → c ≡ totalOf z
       → runOn rules first draws ≡ record { number = 0; steps = made; rest = eqb c 0; net = here }
-  ends-used h e = used-up-with rules (G .running) fills h e
+  ends-used h e = used-up-with rules (G .running) h (e ∙ total-is rules here fills (omega arith))
 
   -- t is what the code has read of the net, and p what it has drawn
   module _ {t : Config} (told : t ≡ here .config) where
@@ -94,15 +95,15 @@ module _ {first : Net} {draws : List ℕ} {here : Net} {takers : Takers} {rows :
     root-low = rw told (root-placed here formed)
 
     module _ (h : made < length draws) {p : Drawn} (e : p ≡ pickedBySize rows z (t .k) (getD draws made 0)) where
-      picks : p ≡ pickedBySize rows z (here .config .k) (getD draws made 0)
-      picks = e ∙ ap (λ (u : Config). pickedBySize rows z (u .k) (getD draws made 0)) told
+      picks : p ≡ picked (listed rules here) (getD draws made 0)
+      picks = of-list rules here fills (omega arith) _ (e ∙ ap (λ (u : Config). pickedBySize rows z (u .k) (getD draws made 0)) told)
 
       pub ends-at-rest : p ≡ drawn.Nothing → runOn rules first draws ≡ record { number = 0; steps = made; rest = true; net = here }
-      ends-at-rest q = at-rest-with rules (G .running) fills h picks q
+      ends-at-rest q = at-rest-with rules (G .running) h picks q
 
       module _ {s : Step} (q : p ≡ drawn.Step s) where
         may : allowed rules here s ≡ true
-        may = drawn-allowed rules here fills _ picks q
+        may = drawn-allowed rules here _ picks q
 
         bounds : Bounds rules here s
         bounds = range-bounds rules here s (allowed-parts rules here s may .0)
@@ -141,7 +142,7 @@ module _ {first : Net} {draws : List ℕ} {here : Net} {takers : Takers} {rows :
 
           pub ends-outside : bounded t (next .held) ≡ false
               → runOn rules first draws ≡ record { number = numberOf OutOfForm; steps = made + 1; rest = false; net = there }
-          ends-outside b = unformed-with rules (G .running) fills h picks q (made-is here s M) (decides ∙ b)
+          ends-outside b = unformed-with rules (G .running) h picks q (made-is here s M) (decides ∙ b)
 
           module _ {reports : Bool} (g : reports ≡ rootReports t (there .stations)) where
             -- the rows as `follow` asks for them
@@ -160,7 +161,7 @@ module _ {first : Net} {draws : List ℕ} {here : Net} {takers : Takers} {rows :
                 → Going first draws there takers′ rows′ z′ (made + 1)
             goes-further {takers′ = takers′} w b H =
                 record {
-                  running = goes-on-with rules (G .running) fills h picks q (made-is here s M) (decides ∙ b);
+                  running = goes-on-with rules (G .running) h picks q (made-is here s M) (decides ∙ b);
                   long = ap (λ (l : List ℕ). length l) same-boxes ∙ length-made (here .config) (here .boxes) s _ ∙ G .long;
                   full = ap (λ (l : List Station). length l) same-stations ∙ length-set (here .stations) _ _ ∙ G .full;
                   known =

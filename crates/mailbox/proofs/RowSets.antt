@@ -126,7 +126,6 @@ module _ (net : Net) (few : net .config .k ≤ 64) where
   pub filled : {rows : List ℕ} {z : Sizes} → HoldReceivers all k (rootOf (net .config)) takers reports (net .boxes) rows z → Filled rules net rows z
   filled H =
       record {
-        kinds = omega arith;
         few = few;
         are = record { row = λ kind s h l m. H .row kind s h l m tt ∙ receivers-are kind s h m };
         sizes = H .sizes;

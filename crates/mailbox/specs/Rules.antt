@@ -36,4 +36,4 @@ rules =
     let k : Net → ℕ = λ net. net .config .k in
     let root : Net → ℕ = λ net. rootOf (net .config) in
     let guard : Net → Step → Bool = λ net s. mayStep s (station net (s .receiver)) (boxAt (net .boxes) (s .sender) (s .receiver)) in
-    record { kinds = 2; reports = report; stations = k; root = root; wellFormed = wellFormed; guard = guard; apply = netAfter }
+    record { kinds = λ net. 2; reports = report; stations = k; root = root; wellFormed = wellFormed; guard = guard; apply = netAfter }

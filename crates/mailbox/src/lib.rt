@@ -4,7 +4,7 @@ use aggregate::Config;
 use linemap::Map;
 use refusal::Refusal;
 use schedule::Answer;
-use schedule::RunAnswer;
+use schedule::Ran;
 use schedule::Step;
 use schedule::rows::Drawn;
 use station::Station;
@@ -16,14 +16,12 @@ ghost use lib.ListN.{length};
 ghost use lib.Dec.{eqb};
 ghost use Rattle.finite.specs.Below.{allBelow};
 ghost use Rattle.aggregate.specs.Aggregate.{rootOf, bounded};
-ghost use Rattle.refusal.specs.Refusal.{numberOf};
-ghost use Rattle.refusal.specs.declared.Refusal.the-variants.{OutOfForm};
 ghost use Rattle.linemap.specs.Openings.{openingOf};
 ghost use Rattle.schedule.specs.Outcome.{stepOutcomeOf, runOutcomeOf};
 ghost use Rattle.schedule.specs.Draws.{stepOn, drawOn, runOn};
 ghost use Rattle.mail.specs.Mail.{mailboxBounded, boxAt, broughtAt};
 ghost use Rattle.stations.specs.Words.{spareIn};
-ghost use Rattle.mailbox.specs.Net.{Net, netOf, station, areBounded, wellFormed, freshNet};
+ghost use Rattle.mailbox.specs.Net.{netOf, station, areBounded, wellFormed, freshNet};
 ghost use Rattle.mailbox.specs.Rules.{delivery, rules};
 ghost use Rattle.mailbox.specs.Opening.{mailboxOpening};
 ghost use Rattle.mailbox.specs.internal.Receivers.{Made};
@@ -37,13 +35,6 @@ pub const DELIVERY: u8 = 1;
 pub const REPORT: u8 = 2;
 
 const KINDS: u8 = 2;
-
-// What a run answers, the steps made, and whether the net reached is quiescent (01: at rest).
-pub struct Ran {
-    pub answer: RunAnswer,
-    pub steps: usize,
-    pub at_rest: bool,
-}
 
 // The net before the first step: a start from the root in each neighbour's mailbox.
 fn put_fresh(
@@ -186,29 +177,6 @@ pub fn draw(line: &mut [u64; 705], boxes: &mut [u64; 36992], d: u16) -> Answer
     Answer::Made(step)
 }
 
-// What a run gives that stops in form, whatever the net.
-fn stop(steps: usize, rest: bool) -> Ran
-    ensures { λ r. ⌜ ((net : Net) → runOutcomeOf (r .answer) (r .steps) (r .«at_rest») net ≡ record { number = 0; steps = steps; rest = rest; net = net }) ⌝ }
-{
-    Ran {
-        answer: RunAnswer::Stopped,
-        steps: steps,
-        at_rest: rest,
-    }
-}
-
-// What a run gives that starts outside the form, or has left it.
-fn stop_outside(steps: usize) -> Ran
-    ensures { λ r. ⌜ ((net : Net) → runOutcomeOf (r .answer) (r .steps) (r .«at_rest») net
-        ≡ record { number = numberOf OutOfForm; steps = steps; rest = false; net = net }) ⌝ }
-{
-    Ran {
-        answer: RunAnswer::Refused(Refusal::OutOfForm),
-        steps: steps,
-        at_rest: false,
-    }
-}
-
 // How many words are lent. It is called for what it tells the prover: a reference to an array does not.
 fn count_words(boxes: &[u64]) -> usize
     ensures { λ r. ⌜ r ≡ length (now (boxes .entry)) ⌝ }
@@ -220,11 +188,11 @@ fn count_words(boxes: &[u64]) -> usize
 // among the draws and the number of steps made. The form is tested once: after that, only what the receiver has gathered can break it. Who
 // takes a message is kept, and the rows follow each step.
 pub fn run(line: &mut [u64; 705], boxes: &mut [u64; 36992], draws: &[u16]) -> Ran
-    ensures outcome { λ r. ⌜ runOutcomeOf (r .answer) (r .steps) (r .«at_rest») (netOf (now (line .exit)) (now (boxes .exit))) ≡ runOn rules (netOf (now (line .entry)) (now (boxes .entry))) (now (draws .entry)) ⌝ }
+    ensures outcome { λ r. ⌜ runOutcomeOf r (netOf (now (line .exit)) (now (boxes .exit))) ≡ runOn rules (netOf (now (line .entry)) (now (boxes .entry))) (now (draws .entry)) ⌝ }
     ensures spare { λ r. ⌜ spareIn (now (line .exit)) ≡ spareIn (now (line .entry)) ⌝ }
 {
     if !is_well_formed(line, boxes) {
-        return stop_outside(0);
+        return schedule::stop_outside(0);
     }
     let words = count_words(boxes);
     let first = stations::config_in(line);
@@ -237,13 +205,13 @@ pub fn run(line: &mut [u64; 705], boxes: &mut [u64; 36992], draws: &[u16]) -> Ra
         let t = stations::config_in(line);
         let drawn = schedule::rows::pick(&rows, sizes, t.k, draws[made]);
         let Drawn::Step(step) = drawn else {
-            return stop(made, true);
+            return schedule::stop(made, true);
         };
         let next = make(line, boxes, t, step);
         made += 1;
         let held = next.held;
         if !aggregate::is_bounded(t, held) {
-            return stop_outside(made);
+            return schedule::stop_outside(made);
         }
         reports = listing::root_reports(line, t);
         let old = takers;
@@ -251,5 +219,5 @@ pub fn run(line: &mut [u64; 705], boxes: &mut [u64; 36992], draws: &[u16]) -> Ra
         sizes = listing::follow(&mut rows, sizes, t, old, takers, reports, boxes, step);
     }
     let c = schedule::rows::total(sizes);
-    stop(made, c == 0)
+    schedule::stop(made, c == 0)
 }

@@ -1,7 +1,7 @@
 -- An output has no more lines than there is room for: by demand 3 a run makes at most 2 × m + 1 steps, and 64 stations have at most 2,016
 -- links. Assumes nothing.
 use mathlib.Core.Path.{_≡_, refl, ap}
-use mathlib.Core.Bool.{Bool}
+use mathlib.Core.Bool.{Bool, false}
 use mathlib.Core.List.{List, [], _∷_}
 use Prim.Native.Nat.{ℕ, zero, suc, _≤_}
 use native.Mathlib.Omega.{arith}
@@ -48,13 +48,13 @@ pub few-lines : {s : List ℕ} {m : Map} {draws : ℕ} → Opens s m draws → F
 unfolding linesOf lotLines
 few-lines {s} {m} {draws} o fits =
     let ds : List ℕ = drawsIn s draws in
-    let made : List Step = runMade rules (freshOn m) ds in
+    let made : List Step = runMade rules (freshOn false m) ds in
     let k-most = map-web m (ap isAccepted (o .good)) .few-stations in
     rw (o .opens) (omega (
       arith,
-      length-append (stepLines (freshOn m) made) (closingLine m (length made) ∷ []),
-      length-steps (freshOn m) made,
-      run-steps rules (freshOn m) ds,
+      length-append (stepLines (freshOn false m) made) (closingLine m (length made) ∷ []),
+      length-steps (freshOn false m) made,
+      run-steps rules (freshOn false m) ds,
       rendezvous-order m fits (o .good) .order .run-formula ds,
       links-le (m .k) (linked (m .k) (m .neighbours)) k-most,
     ))

@@ -1,6 +1,7 @@
 -- Where the loop over the draws stands: the lines before stand at the front of the buffer, and those left are those of the net reached. A
 -- draw that makes a step gives the first of them; where no draw is left or one is refused, only the closing line is left. Assumes nothing.
 use mathlib.Core.Path.{_≡_, refl, sym, ap, _∙_}
+use mathlib.Core.Bool.{false}
 use mathlib.Core.List.{List, [], _∷_, _++_, flatMap}
 use Prim.Native.Nat.{ℕ, suc, _+_, _≤_, _<_}
 use native.Mathlib.Nat.{zero-add}
@@ -96,11 +97,11 @@ pub record Stands (s : List ℕ) (draws : ℕ) (l : List ℕ) (l′ : List ℕ) 
 
 -- it starts from the fresh net
 pub stands-first : {s l : List ℕ} {m : Map} {draws : ℕ} {net : Net} (before : Net) (verdict : Verdict) → Opens s m draws
-    → openingOf verdict net ≡ meet.rendezvousOpening m before
+    → openingOf verdict net ≡ meet.rendezvousOpening false m before
     → Stands s draws l l net 0 0
 unfolding linesOf lotLines linesLeft openingBy flatMap
 stands-first {s} {l} {m} {draws} {net} before verdict o e =
-    let fresh : net ≡ meet.freshOn m = ap (λ (x : Opening Net). x .net) e ∙ rw (o .good) in
+    let fresh : net ≡ meet.freshOn false m = ap (λ (x : Opening Net). x .net) e ∙ rw (o .good) in
     record { few = omega arith; left = rw (o .opens, fresh, zero-add); put = record { bytes = refl; end = refl } }
 
 module _ {s l l′ : List ℕ} {draws : ℕ} {net : Net} {made end : ℕ} (w : Stands s draws l l′ net made end) where

@@ -1,5 +1,5 @@
 -- What the program writes for its input (document 01, "The program").
-use mathlib.Core.Bool.{cond}
+use mathlib.Core.Bool.{false, cond}
 use mathlib.Core.List.{List, [], _∷_, _++_, flatMap}
 use Prim.Native.Nat.{ℕ, _+_, _*_}
 use lib.Dec.{eqb, leb}
@@ -53,7 +53,7 @@ closingLine m steps = plain m (Closing (m .lot) steps (linkCount m))
 -- "It runs stations that meet. Output is one line a step, then, also when the draws run out, a closing line"
 unfoldable pub lotLines : Map → List ℕ → List Shown
 lotLines m draws =
-    stepLines (freshOn m) (runMade rules (freshOn m) draws) ++ (closingLine m (length (runMade rules (freshOn m) draws)) ∷ [])
+    stepLines (freshOn false m) (runMade rules (freshOn false m) draws) ++ (closingLine m (length (runMade rules (freshOn false m) draws)) ∷ [])
 
 -- the lines for an input; "A refusal prints .. and nothing else"
 unfoldable pub linesOf : List ℕ → List Shown

@@ -13,7 +13,8 @@ pub use streams::run;
 use text::Line;
 use topology::LinksAnswer;
 ghost use mathlib.Core.Path.{_≡_};
-ghost use Prim.Native.Nat.{_+_, _<_, _≤_};
+ghost use mathlib.Core.List.{List};
+ghost use Prim.Native.Nat.{ℕ, _+_, _<_, _≤_};
 ghost use lib.ListN.{length};
 ghost use Rattle.topology.specs.Answer.{accepted};
 ghost use Rattle.linemap.specs.Maps.{acceptance, linkCount};
@@ -68,7 +69,7 @@ fn step_line(step: Step) -> Line
 // The line of a step in this net, beside what its sender holds.
 fn show_step(net: &[u64; 705], step: Step) -> Shown
     requires { ⌜ step .sender < 64 ⌝ }
-    ensures { λ r. ⌜ r ≡ stepShown (netIn (now (net .entry))) step ⌝ }
+    ensures { λ r. ⌜ ((kept : List ℕ) → r ≡ stepShown (netIn (now (net .entry)) kept) step) ⌝ }
 {
     let sender = stations::load(net, step.sender);
     let held = sender.held;
@@ -122,12 +123,13 @@ fn put_steps(input: &[u8], m: Map, draws: u16, out: &mut [u8]) -> Steps
     ensures { λ r. ⌜ StepsPut (now (input .entry)) (now (out .entry)) (r .made) (r .end) (now (out .exit)) ⌝ }
 {
     let mut net = [0u64; 705];
-    let opened = rendezvous::fresh(m, &mut net);
+    let mut totals = [0u64; 576];
+    let opened = rendezvous::fresh(m, false, &mut net, &mut totals);
     let mut made: u16 = 0;
     let mut end: usize = 0;
     while made < draws {
         let here = net;
-        let answer = rendezvous::draw(&mut net, opening::draw_at(input, made));
+        let answer = rendezvous::draw(&mut net, &mut totals, opening::draw_at(input, made));
         let Answer::Made(step) = answer else {
             break;
         };

@@ -1,6 +1,6 @@
 -- Each step is the events of its stations. In a well-formed net the processes are well-formed and what they are handed is in range, so an event
 -- is accepted just where its guard holds; Guards says that the guards make Figure 2's conditions. Assumes nothing.
-use mathlib.Core.Path.{_≡_, refl, sym, _∙_, ap}
+use mathlib.Core.Path.{_≡_, refl, sym, _∙_, ap, subst}
 use mathlib.Core.Bool.{Bool, true, false, not, _&&_, _||_, and-true, and-false, and-comm}
 use Prim.Native.Nat.{ℕ, _<_}
 use native.Mathlib.Omega.{arith}
@@ -8,7 +8,8 @@ use lib.ListN.{length}
 use lib.Seq.{getD-set-same}
 use lib.Dec.{eqb}
 use borrow.Author.Tests.{lt-ltb, eq-eqb, ne-eqb, eqb-true, eqb-false, not-true}
-use Rattle.finite.proofs.Cases.{by-bool, by-eq, and-both, or-left, or-right}
+use Rattle.finite.proofs.Cases.{clash, by-bool, by-eq, and-both, or-left, or-right}
+use Rattle.bitset.specs.Set.{member}
 use Rattle.bitset.proofs.Laws.{within-lt, within-width}
 use Rattle.aggregate.specs.Aggregate.{rootOf, bounded, clipped}
 use Rattle.aggregate.proofs.Laws.{valid-parts, nothing-bounded, valid-of, root-below, root-desk, joined-alike, joined-clipped, bounded-alike, clipped-bounded}
@@ -20,12 +21,12 @@ use Rattle.station.specs.Process.{EventOutcome, decide, takeStart, sendStart, t
 use Rattle.station.specs.Process as process
 use Rattle.station.proofs.Formed.{facts, well-formed}
 use Rattle.stations.specs.Stations.{noStation}
-use Rattle.stations.proofs.Laws.{config-valid}
-use Rattle.rendezvous.specs.Net.{Net, station, wellFormed, withTwo}
+use Rattle.rendezvous.specs.Net.{Net, station, told, wellFormed, withTwo}
 use Rattle.rendezvous.specs.Figure.{wake, pass, answer, report, assigned}
 use Rattle.rendezvous.specs.Together.{processAt, isDone, may, Together, Alone, StepsAreEvents}
 use Rattle.rendezvous.proofs.Guards.{wake-guard, pass-guard, answer-guard, report-guard}
-use Rattle.rendezvous.proofs.Laws.{k-most, formed-at}
+use Rattle.rendezvous.proofs.Laws.{form-valid, k-most, formed-at, held-bounded, root-untold}
+use Rattle.rendezvous.proofs.Settled.{isTold}
 use Rattle.rendezvous.proofs.Places.{two-sender, two-receiver}
 
 -- an event is accepted just where its guard holds, and then leaves the station s
@@ -38,6 +39,20 @@ decided : (form range guard : Bool) (p : Process) (o : EventOutcome) → form �
 unfolding decide
 decided form range true p o f r z = rw (f, r) (record { accepted = eq-eqb (o .number) 0 z; leaves = λ g. refl })
 decided form range false p o f r z = rw (f, r) (record { accepted = refl; leaves = λ g. cc })
+
+-- one that its guard bars is refused, whatever its form
+barred : (form range : Bool) (p : Process) (o : EventOutcome) → Event (decide form range false p o) false (o .process .station)
+unfolding decide
+barred true true p o = record { accepted = refl; leaves = λ g. cc }
+barred true false p o = record { accepted = refl; leaves = λ g. cc }
+barred false range p o = record { accepted = refl; leaves = λ g. cc }
+
+-- so a told station makes no event, as its guards say
+decided-or : (told form range guard : Bool) (p : Process) (o : EventOutcome) → (told ≡ false → form ≡ true) → (told ≡ true → guard ≡ false) → range ≡ true
+    → o .number ≡ 0 → Event (decide form range guard p o) guard (o .process .station)
+decided-or true form range guard p o f b r z =
+    subst (λ (g : Bool). Event (decide form range g p o) g (o .process .station)) (sym (b refl)) (barred form range p o)
+decided-or false form range guard p o f b r z = decided form range guard p o (f refl) r z
 
 -- the tests of a start and of an answer, as Guards and as Together order them
 start-together : (state may apart takes : Bool) → (state ≡ true → takes ≡ true) → (state && (may && apart)) ≡ (apart && state && may && takes)
@@ -52,20 +67,30 @@ answer-together false m n p = sym (simp and-false)
 eqb-comm : (a b : ℕ) → eqb a b ≡ eqb b a
 eqb-comm a b = by-eq a b (λ e. eq-eqb a b e ∙ sym (eq-eqb b a (sym e))) (λ n. ne-eqb a b n ∙ sym (ne-eqb b a (λ e. n (sym e))))
 
+-- a told station is neither asleep nor active
+told-active : (n : ℕ) → eqb n told ≡ true → eqb n active ≡ false
+told-active n q = ne-eqb n active (λ e. omega (arith, eqb-true n told q, e))
+
+idle : (n : ℕ) → eqb n told ≡ true → (set : Bool) → (eqb n active && set) ≡ false
+idle n q set = rw (told-active n q)
+
+deaf : (n : ℕ) → eqb n told ≡ true → (eqb n asleep || eqb n active) ≡ false
+deaf n q = rw (ne-eqb n asleep (λ e. omega (arith, eqb-true n told q, e)), told-active n q)
+
 module _ (net : Net) (f : wellFormed net ≡ true) (full : length (net .stations) ≡ 64) where
   -- a station by itself has the net's root, though 64 stands for k
   same-root : (i : ℕ) → rootOf (processConfig (processAt net i)) ≡ rootOf (net .config)
   same-root i = root-desk (processConfig (processAt net i)) ∙ sym (root-desk (net .config))
 
   -- a station of the net is a well-formed process of its own
-  process-formed : (i : ℕ) → i < net .config .k → wellFormedProcess (processAt net i) ≡ true
-  unfolding wellFormedProcess wellFormed
-  process-formed i l =
+  process-formed : (i : ℕ) → i < net .config .k → isTold net i ≡ false → wellFormedProcess (processAt net i) ≡ true
+  unfolding wellFormedProcess
+  process-formed i l u =
       let t = net .config in
       let most = k-most net f in
-      let w = facts t i (station net i) (formed-at net f i l) in
+      let w = facts t i (station net i) (formed-at net f i l u) in
       let inside : i < 64 = omega arith in
-      let v = valid-parts t (config-valid t (net .stations) f) in
+      let v = valid-parts t (form-valid net f) in
       let root : rootOf (processConfig (processAt net i)) < 64 = omega (arith, same-root i, v .2) in
       rw (valid-of (processConfig (processAt net i)) refl (v .1) root, lt-ltb i 64 inside)
       (well-formed (processConfig (processAt net i)) i (station net i)
@@ -87,12 +112,12 @@ module _ (net : Net) (f : wellFormed net ≡ true) (full : length (net .stations
     i-inside = omega (arith, k-most net f)
 
     sends-start : Event (sendStart i (processAt net j)) (maySendStart i (station net j)) (startSent i (station net j))
-    unfolding sendStart
-    sends-start = decided _ _ _ _ _ (process-formed j lj) (lt-ltb i 64 i-inside) refl
+    unfolding sendStart maySendStart
+    sends-start = decided-or (isTold net j) _ _ _ _ _ (process-formed j lj) (λ q. idle (station net j .state) q (member i (station net j .unstarted))) (lt-ltb i 64 i-inside) refl
 
     takes-start : Event (takeStart j (processAt net i)) (eqb (station net i .state) asleep || eqb (station net i .state) active) (startedBy j (station net i))
     unfolding takeStart
-    takes-start = decided _ _ _ _ _ (process-formed i li) (lt-ltb j 64 j-inside) refl
+    takes-start = decided-or (isTold net i) _ _ _ _ _ (process-formed i li) (λ q. deaf (station net i .state) q) (lt-ltb j 64 j-inside) refl
 
     -- a step whose two events are accepted by the guards a and b, and leave s and r
     together : (kind : ℕ) (fit a b : Bool) (sends takes : EventOutcome) (s r : Station) → Event sends a s → Event takes b r
@@ -142,29 +167,36 @@ module _ (net : Net) (f : wellFormed net ≡ true) (full : length (net .stations
     unfolding mayAnswer
     same-guard = ap (λ (root : ℕ). not (eqb j root) && ready (station net j)) (same-root j)
 
+    told-answer : isTold net j ≡ true → mayAnswer (net .config) j (station net j) ≡ false
+    unfolding mayAnswer ready
+    told-answer q = rw (told-active (station net j .state) q) (and-false (not (eqb j (rootOf (net .config)))))
+
+    answer-untold : mayAnswer (net .config) j (station net j) ≡ true → isTold net j ≡ false
+    answer-untold g = by-bool (isTold net j) (λ q. clash g (told-answer q)) (λ q. q)
+
     -- an answer gives the sum of its sender
     sends-answer : Event (sendAnswer (processAt net j)) (mayAnswer (net .config) j (station net j)) (ended (station net j))
     unfolding sendAnswer
-    sends-answer = rw (← same-guard) (decided _ _ _ _ _ (process-formed j lj) refl refl)
+    sends-answer = rw (← same-guard) (decided-or (isTold net j) _ _ _ _ _ (process-formed j lj) (λ q. same-guard ∙ told-answer q) refl refl)
 
     given-held : mayAnswer (net .config) j (station net j) ≡ true
         → sendAnswer (processAt net j) .given ≡ clipped (processConfig (processAt net j)) (station net j .held)
     unfolding sendAnswer decide
-    given-held g = rw (process-formed j lj, same-guard ∙ g)
+    given-held g = rw (process-formed j lj (answer-untold g), same-guard ∙ g)
 
     given-bounded : bounded (processConfig (processAt net i)) (sendAnswer (processAt net j) .given) ≡ true
     unfolding sendAnswer decide
     given-bounded =
         let t = processConfig (processAt net i) in
-        let held = facts (net .config) j (station net j) (formed-at net f j lj) .held-bounded in
+        let held = held-bounded net f j lj in
         by-bool (mayAnswer (net .config) j (station net j))
-        (λ g. rw (process-formed j lj, same-guard ∙ g) (clipped-bounded t (station net j .held) ∙ bounded-alike t (net .config) refl (station net j .held) ∙ held))
-        (λ g. rw (process-formed j lj, same-guard ∙ g) (nothing-bounded t))
+        (λ g. rw (process-formed j lj (answer-untold g), same-guard ∙ g) (clipped-bounded t (station net j .held) ∙ bounded-alike t (net .config) refl (station net j .held) ∙ held))
+        (λ g. by-bool (wellFormedProcess (processAt net j)) (λ w. rw (w, same-guard ∙ g) (nothing-bounded t)) (λ w. rw w (nothing-bounded t)))
 
     takes-answer : let v = sendAnswer (processAt net j) .given in
         Event (takeAnswer v (processAt net i)) (eqb (station net i .state) active) (answerTaken (processConfig (processAt net i)) v (station net i))
     unfolding takeAnswer
-    takes-answer = decided _ _ _ _ _ (process-formed i li) given-bounded refl
+    takes-answer = decided-or (isTold net i) _ _ _ _ _ (process-formed i li) (λ q. told-active (station net i .state) q) given-bounded refl
 
     answers : let sends = sendAnswer (processAt net j) in
         Together net answer j i (eqb (station net j .parent) i) sends (takeAnswer (sends .given) (processAt net i))
@@ -184,15 +216,14 @@ module _ (net : Net) (f : wellFormed net ≡ true) (full : length (net .stations
         rw (given-held sent, joined-clipped t (r .held) (s .held), joined-alike (net .config) t refl (r .held) (s .held)))
 
   root-inside : rootOf (net .config) < net .config .k
-  unfolding wellFormed
-  root-inside = root-below (net .config) (config-valid (net .config) (net .stations) f)
+  root-inside = root-below (net .config) (form-valid net f)
 
   reports-event : let root = rootOf (net .config) in Event (process.report (processAt net root)) (ready (station net root)) (ended (station net root))
   unfolding process.report mayReport
   reports-event =
       let root = rootOf (net .config) in
       let own : eqb root (rootOf (processConfig (processAt net root))) ≡ true = eq-eqb _ _ (sym (same-root root)) in
-      rw own (decided _ _ _ _ _ (process-formed root root-inside) refl refl)
+      rw own (decided _ _ _ _ _ (process-formed root root-inside (root-untold net f)) refl refl)
 
   reports : Alone net report (rootOf (net .config)) (process.report (processAt net (rootOf (net .config))))
   unfolding assigned

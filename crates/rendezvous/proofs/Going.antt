@@ -6,19 +6,21 @@ use mathlib.Core.List.{List}
 use Prim.Native.Nat.{ℕ, _+_, _^_, _≤_, _<_}
 use native.Mathlib.Nat.{lt-of-lt-of-le}
 use native.Mathlib.Omega.{arith}
-use lib.ListN.{length, getD, length-set}
+use lib.ListN.{length, getD, set, length-set}
 use lib.Seq.{set-set, getD-set-same, getD-set-other}
 use lib.Dec.{eqb}
 use lib.Pow.{pow-mono}
-use borrow.Author.Tests.{eqb-false}
+use borrow.Author.Tests.{eqb-true}
 use Rattle.refusal.specs.declared.Refusal.the-variants.{OutOfForm}
 use Rattle.refusal.specs.Refusal.{numberOf}
-use Rattle.finite.proofs.Cases.{by-bool}
+use Rattle.finite.proofs.Cases.{by-bool, by-eq}
+use Rattle.finite.proofs.Lists.{set-own}
 use Rattle.bitset.specs.Set.{put}
 use Rattle.bitset.proofs.Selected.{set-lt}
 use Rattle.bitset.proofs.Unions.{put-set}
 use Rattle.aggregate.specs.declared.Config.{Config}
-use Rattle.aggregate.specs.Aggregate.{bounded, joinable}
+use Rattle.aggregate.specs.declared.Aggregate.{Aggregate}
+use Rattle.aggregate.specs.Aggregate.{rootOf, joinable, clipped}
 use Rattle.station.specs.declared.Station.{Station}
 use Rattle.station.specs.Events.{asleep, active}
 use Rattle.stations.specs.Stations.{noStation}
@@ -27,25 +29,27 @@ use Rattle.schedule.specs.declared.rows.Drawn.{Drawn}
 use Rattle.schedule.specs.declared.rows.Drawn.the-variants as drawn
 use Rattle.schedule.specs.declared.rows.Sizes.{Sizes}
 use Rattle.schedule.specs.Rules.{allowed}
-use Rattle.schedule.specs.Rows.{rowAt, pickedBySize}
+use Rattle.schedule.specs.Rows.{rowAt}
+use Rattle.schedule.specs.Listing.{listed}
 use Rattle.schedule.specs.internal.Rows.{Filled, others}
-use Rattle.schedule.specs.Draws.{runOn}
+use Rattle.schedule.specs.Draws.{picked, runOn}
 use Rattle.schedule.proofs.Answers.{allowed-parts}
 use Rattle.schedule.proofs.Listing.{range-bounds, Bounds}
 use Rattle.schedule.proofs.Drawing.{drawn-allowed}
 use Rattle.schedule.proofs.Running.{Running, goes-on-with, unformed-with, at-rest-with}
 use Rattle.rendezvous.specs.declared.listing.States.{States}
 use Rattle.rendezvous.specs.declared.listing.Sends.{Sends}
-use Rattle.rendezvous.specs.Net.{Net, station, wellFormed, withOne, withTwo}
+use Rattle.rendezvous.specs.Net.{Net, station, wellFormed, withStations, withOne}
 use Rattle.rendezvous.specs.Figure.{wake, pass, answer, assigned}
+use Rattle.rendezvous.specs.Telling.{tell, isTell, known, hearsTotal, toldBy}
 use Rattle.rendezvous.specs.internal.Receivers.{inState, statesOf, restated, sendsOf, keptAt, withSends, takersIn}
-use Rattle.rendezvous.specs.internal.Receivers.{Agree, Renewed, AreSends, HoldTakers, HoldSome, Made, sentBy, receivedBy}
+use Rattle.rendezvous.specs.internal.Receivers.{Agree, Renewed, AreSends, HoldTakers, HoldSome, sentBy, receivedBy, keptBy, withMade, madeOf, keepsForm}
 use Rattle.rendezvous.specs.Rules.{rules}
-use Rattle.rendezvous.proofs.Laws.{k-most, sums-joinable}
-use Rattle.rendezvous.proofs.Places.{two-receiver}
+use Rattle.rendezvous.proofs.Laws.{k-most, root-most, sums-joinable}
 use Rattle.rendezvous.proofs.RowSets.{rows-filled}
 use Rattle.rendezvous.proofs.Kept.{kept-one}
 use Rattle.rendezvous.proofs.Following.{states-agree, kept-others}
+use Rattle.rendezvous.proofs.Settled.{wave-of, reports-alone}
 use Rattle.rendezvous.proofs.FormAfter.{next-formed}
 
 -- rows of the k that the code has read
@@ -85,24 +89,47 @@ module _ (net : Net) (few : net .config .k ≤ 64) (full : length (net .stations
         full = length-set (net .stations) j s ∙ full;
       }
 
+-- what is kept says nothing of what stations may send
+known-as : (net : Net) (totals : List Aggregate) {kept : List ℕ} {states : States} → Known net kept states
+    → Known (record { config = net .config; stations = net .stations; carrying = net .carrying; kept = totals }) kept states
+unfolding inState
+known-as net totals K =
+    record { sends-are = record { sized = K .sends-are .sized; word = K .sends-are .word }; states-are = K .states-are; full = K .full }
+
 -- the two stations of an allowed step, written one after the other
-pub made-is : (net : Net) (s : Step) {sender receiver : Station} → allowed rules net s ≡ true
-    → sender ≡ sentBy (s .kind) (s .receiver) (station net (s .sender))
-    → receiver ≡ receivedBy (net .config) (s .kind) (s .sender) (station net (s .sender)) (station net (s .receiver))
-    → withTwo net (s .sender) sender (s .receiver) receiver ≡ rules .apply net s
-unfolding sentBy receivedBy assigned
-made-is net s a u v =
+pub made-is : (net : Net) (s : Step) → allowed rules net s ≡ true → madeOf net s ≡ rules .apply net s
+unfolding sentBy receivedBy assigned toldBy
+made-is net s a =
     let kind = s .kind in
     let j = s .sender in
-    let b = range-bounds rules net s (allowed-parts rules net s a .0) in
-    rw (u, v)
-    (by-bool (eqb kind wake) (λ w. rw w)
-    (λ w. by-bool (eqb kind pass) (λ p. rw (w, p))
-    (λ p. by-bool (eqb kind answer) (λ q. rw (w, p, q))
+    by-bool (isTell s)
+    (λ w.
+    let e = eqb-true kind tell w in
+    rw e (ap
+    (λ (l : List Station).
+    record { config = net .config; stations = set l (s .receiver) (hearsTotal (station net (s .receiver))); carrying = net .carrying; kept = set (net .kept) (s .receiver) (clipped (net .config) (known net j)) })
+    (set-own (net .stations) j noStation)))
+    (λ n.
+    by-bool (eqb kind wake) (λ w. rw (n, w))
+    (λ w. by-bool (eqb kind pass) (λ p. rw (n, w, p))
+    (λ p. by-bool (eqb kind answer) (λ q. rw (n, w, p, q))
     (λ q.
-    let at = b .report-at-root (omega (arith, eqb-false kind wake w, eqb-false kind pass p, eqb-false kind answer q, b .kind-low, b .kind-high)) in
-    let same : s .receiver ≡ j = at .1 ∙ sym (at .0) in
-    rw (w, p, q, same) (ap (λ (l : List Station). record { config = net .config; stations = l }) (set-set (net .stations) j _ _))))))
+    let same : s .receiver ≡ j = sym (reports-alone (wave-of net s a n .range) w p q) in
+    rw (n, w, p, q, same) (ap (withStations net) (set-set (net .stations) j _ _))))))
+
+-- two entries that are replaced by what they are after it
+set-anew : {A : Type 0} (l : List A) (i j : ℕ) (a b d : A) → i < length l → j < length l
+    → let m = set (set l i a) j b in set (set l i (getD m i d)) j (getD m j d) ≡ m
+set-anew {A = A} l i j a b d h k =
+    let m = set (set l i a) j b in
+    let at-j : getD m j d ≡ b = getD-set-same (set l i a) j b d (omega (arith, length-set l i a)) in
+    by-eq i j
+    (λ (e : i ≡ j).
+    let at-i : getD m i d ≡ b = ap (λ (x : ℕ). getD m x d) e ∙ at-j in
+    rw (at-i, at-j) (ap (λ (x : ℕ). set (set l i b) x b) (sym e) ∙ set-set l i b b ∙ sym (set-set l i a b) ∙ ap (λ (x : ℕ). set (set l i a) x b) e))
+    (λ n.
+    let at-i : getD m i d ≡ a = getD-set-other (set l i a) j i b d n ∙ getD-set-same l i a d h in
+    rw (at-i, at-j))
 
 pub record Going (first : Net) (draws : List ℕ) (here : Net) (states : States) (kept rows : List ℕ) (z : Sizes) (made : ℕ) : Type 0 where
   pub running : Running rules first draws here made
@@ -123,17 +150,17 @@ module _ {first : Net} {draws : List ℕ} {here : Net} {states : States} {kept r
   small : (kind s : ℕ) → 1 ≤ kind → kind ≤ 4 → s < here .config .k → rowAt rows kind s < 2 ^ 64
   small kind s h l m = rw (filled .are .row kind s h l m) (lt-of-lt-of-le (set-lt (here .config .k) _) (pow-mono few))
 
-  -- t is what the code has read of the net, and p what it has drawn
-  module _ {t : Config} (told : t ≡ here .config) (h : made < length draws) {p : Drawn} (e : p ≡ pickedBySize rows z (t .k) (getD draws made 0)) where
-    picks : p ≡ pickedBySize rows z (here .config .k) (getD draws made 0)
-    picks = e ∙ ap (λ (u : Config). pickedBySize rows z (u .k) (getD draws made 0)) told
+  pub config-low : {t : Config} → t ≡ here .config → (t .k ≤ 64) × (rootOf t < 64)
+  config-low e = rw e (few, root-most here formed)
 
+  -- t is what the code has read of the net, and p what it has drawn
+  module _ {t : Config} (told : t ≡ here .config) (h : made < length draws) {p : Drawn} (e : p ≡ picked (listed rules here) (getD draws made 0)) where
     pub rests : p ≡ drawn.Nothing → runOn rules first draws ≡ record { number = 0; steps = made; rest = true; net = here }
-    rests q = at-rest-with rules (G .running) filled h picks q
+    rests q = at-rest-with rules (G .running) h e q
 
     module _ {s : Step} (q : p ≡ drawn.Step s) where
       may : allowed rules here s ≡ true
-      may = drawn-allowed rules here filled _ picks q
+      may = drawn-allowed rules here _ e q
 
       bounds : Bounds rules here s
       bounds = range-bounds rules here s (allowed-parts rules here s may .0)
@@ -150,20 +177,30 @@ module _ {first : Net} {draws : List ℕ} {here : Net} {states : States} {kept r
       pub joins : joinable (here .config) (station here (s .receiver) .held) (station here (s .sender) .held) ≡ true
       joins = sums-joinable here formed s (allowed-parts rules here s may .0)
 
-      module _ {sender receiver : Station} {next : Net} (M : Made here s sender receiver next) where
+      -- the net after it, and its two stations as they are there
+      module _ {next : Net} (M : next ≡ madeOf here s) where
+        abbrev sender : Station
+        sender = station next (s .sender)
+
+        abbrev receiver : Station
+        receiver = station next (s .receiver)
+
         after : next ≡ rules .apply here s
-        after = M .after-is ∙ made-is here s may (M .sender-is) (M .receiver-is)
+        after = M ∙ made-is here s may
 
-        decides : wellFormed next ≡ bounded t (receiver .held)
-        decides =
-            next-formed here s formed may after
-            ∙ ap₂ (λ (u : Config) (x : Station). bounded u (x .held)) (ap (λ (n : Net). n .config) (M .after-is) ∙ sym told)
-            (ap (λ (n : Net). station n (s .receiver)) (M .after-is)
-            ∙ two-receiver here (s .sender) (s .receiver) sender receiver (omega (arith, G .known .full, receiver-low)))
+        next-is : next ≡ withMade here s sender receiver
+        next-is =
+            M
+            ∙ ap (λ (l : List Station). record { config = here .config; stations = l; carrying = here .carrying; kept = keptBy here s })
+            (sym (set-anew (here .stations) (s .sender) (s .receiver) _ _ noStation (omega (arith, G .known .full, sender-low)) (omega (arith, G .known .full, receiver-low))))
+            ∙ ap (λ (n : Net). withMade here s (station n (s .sender)) (station n (s .receiver))) (sym M)
 
-        pub ends-outside : bounded t (receiver .held) ≡ false
+        decides : wellFormed next ≡ keepsForm t (s .kind) receiver
+        decides = next-formed here s formed may after ∙ ap (λ (u : Config). keepsForm u (s .kind) receiver) (sym told)
+
+        pub ends-outside : keepsForm t (s .kind) receiver ≡ false
             → runOn rules first draws ≡ record { number = numberOf OutOfForm; steps = made + 1; rest = false; net = next }
-        ends-outside b = unformed-with rules (G .running) filled h picks q after (decides ∙ b)
+        ends-outside b = unformed-with rules (G .running) h e q after (decides ∙ b)
 
         module _ {kept₁ kept₂ : List ℕ} {states₁ states₂ : States} (x : Renewed t (s .sender) sender kept states kept₁ states₁)
             (y : Renewed t (s .receiver) receiver kept₁ states₁ kept₂ states₂) where
@@ -184,17 +221,17 @@ module _ {first : Net} {draws : List ℕ} {here : Net} {states : States} {kept r
               } in
               subst (λ (u : Config). HoldSome (others s) (u .k) states (keptAt kept₂) rows z) (sym told) hold
 
-          pub goes-further : bounded t (receiver .held) ≡ true → {rows₂ : List ℕ} {z₂ : Sizes}
+          pub goes-further : keepsForm t (s .kind) receiver ≡ true → {rows₂ : List ℕ} {z₂ : Sizes}
               → HoldTakers (t .k) states₂ (keptAt kept₂) rows₂ z₂ → Going first draws next states₂ kept₂ rows₂ z₂ (made + 1)
           goes-further b H =
               let first-in : Renewed (here .config) (s .sender) sender kept states kept₁ states₁ =
               (x .0 ∙ ap (λ (u : Config). withSends kept (s .sender) (sendsOf u (s .sender) sender)) told, x .1) in
               let then-in : Renewed (here .config) (s .receiver) receiver kept₁ states₁ kept₂ states₂ =
               (y .0 ∙ ap (λ (u : Config). withSends kept₁ (s .receiver) (sendsOf u (s .receiver) receiver)) told, y .1) in
-              let one = known-one here few (G .known .full) (s .sender) (bounds .sender-low) sender (G .known) first-in in
-              let two = known-one (withOne here (s .sender) sender) few (one .full) (s .receiver) (bounds .receiver-low) receiver one then-in in
+              let middle = known-one here few (G .known .full) (s .sender) (bounds .sender-low) sender (G .known) first-in in
+              let last = known-one (withOne here (s .sender) sender) few (middle .full) (s .receiver) (bounds .receiver-low) receiver middle then-in in
               record {
-                running = goes-on-with rules (G .running) filled h picks q after (decides ∙ b);
-                known = subst (λ (n : Net). Known n kept₂ states₂) (sym (M .after-is)) two;
-                held = held-told (told ∙ sym (ap (λ (n : Net). n .config) (M .after-is))) H;
+                running = goes-on-with rules (G .running) h e q after (decides ∙ b);
+                known = subst (λ (n : Net). Known n kept₂ states₂) (sym next-is) (known-as _ (keptBy here s) last);
+                held = held-told (told ∙ sym (ap (λ (n : Net). n .config) M)) H;
               }

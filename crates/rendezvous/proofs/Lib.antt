@@ -1,8 +1,11 @@
 pub mod Guards
+pub mod Flags
 pub mod RowSets
+pub mod Tells
 pub mod Kept
 pub mod Filling
 pub mod Following
+pub mod Settled
 pub mod Laws
 pub mod Places
 pub mod FormAfter

@@ -1,7 +1,7 @@
 -- The receivers that the code finds for a kind and a sender are those of the steps allowed: member by member, each guard's tests in another
 -- order. So the rows of who can take what may be sent are those of the net. Assumes nothing.
-use mathlib.Core.Path.{_≡_, refl, sym, _∙_, ap, ap₂}
-use mathlib.Core.Bool.{Bool, true, false, not, _&&_, and-true, and-false, and-comm}
+use mathlib.Core.Path.{_≡_, refl, sym, _∙_, ap, ap₂, subst}
+use mathlib.Core.Bool.{Bool, true, false, not, _&&_, cond, and-true, and-false, and-comm}
 use mathlib.Core.List.{List}
 use Prim.Native.Nat.{ℕ, _≤_, _<_, _^_}
 use native.Mathlib.Nat.{lt-of-le-of-lt, lt-of-lt-of-le}
@@ -20,17 +20,23 @@ use Rattle.station.specs.declared.Station.{Station}
 use Rattle.station.specs.Events.{asleep, active, maySendStart, mayReport, mayAnswer, ready}
 use Rattle.schedule.specs.declared.rows.Sizes.{Sizes}
 use Rattle.schedule.specs.Rules.{inRange, allowed}
-use Rattle.schedule.specs.Listing.{step}
+use Rattle.schedule.specs.declared.rows.Drawn.{Drawn}
+use Rattle.schedule.specs.Listing.{step, listed}
+use Rattle.schedule.specs.Rows.{pickedBySize}
+use Rattle.schedule.specs.Draws.{picked}
 use Rattle.schedule.specs.internal.Rows.{Filled}
 use Rattle.schedule.proofs.Listing.{allowed-low}
 use Rattle.schedule.proofs.RowLists.{report-row}
+use Rattle.schedule.proofs.Drawing.{of-list}
 use Rattle.rendezvous.specs.declared.listing.States.{States}
 use Rattle.rendezvous.specs.declared.listing.Sends.{Sends}
-use Rattle.rendezvous.specs.Net.{Net, station}
+use Rattle.rendezvous.specs.Net.{Net, carries, station}
 use Rattle.rendezvous.specs.Figure.{wake, pass, answer, report}
+use Rattle.rendezvous.specs.Telling.{tell}
 use Rattle.rendezvous.specs.Rules.{rules}
 use Rattle.rendezvous.specs.internal.Receivers.{inState, statesOf, startable, answerable, sendsOf, sentIn, takersIn, HoldTakers}
 use Rattle.rendezvous.proofs.Guards.{wake-guard, pass-guard, answer-guard, report-guard}
+use Rattle.rendezvous.proofs.Settled.{kinds-least}
 
 -- a start's tests: as its set has them, and as its guard
 start-tests : (below state in-set apart : Bool) → (apart && in-set && (below && state)) ≡ (below && (state && (in-set && apart)))
@@ -55,7 +61,7 @@ module _ (net : Net) (j : ℕ) (low : j < net .config .k) (few : net .config .k 
   message-range : (kind i : ℕ) → 1 ≤ kind → kind < report → inRange rules net (step kind j i) ≡ ltb i k
   unfolding inRange
   message-range kind i h l =
-      rw (le-leb 1 kind h, le-leb kind 4 (omega arith), lt-ltb j k low, ne-eqb kind 4 (λ e. omega arith)) (and-true (ltb i k))
+      rw (le-leb 1 kind h, le-leb kind (cond (carries net) tell report) (omega (arith, kinds-least (carries net))), lt-ltb j k low, ne-eqb kind 4 (λ e. omega arith)) (and-true (ltb i k))
 
   startable-has : (i state : ℕ) → member i (bitAnd (startable j s) (inState net state)) ≡ (ltb i k && (eqb (station net i .state) state && (maySendStart i s && not (eqb i j))))
   unfolding startable inState maySendStart
@@ -83,7 +89,7 @@ module _ (net : Net) (j : ℕ) (low : j < net .config .k) (few : net .config .k 
 
   reports-are : bitIf (mayReport (net .config) j s) j ≡ setOf k (λ i. allowed rules net (step report j i))
   unfolding mayReport
-  reports-are = report-row rules net (omega arith) (omega arith) j low few (ready s) (report-guard (net .config) j j s s)
+  reports-are = report-row rules net (omega arith) (kinds-least (carries net)) j low few (ready s) (report-guard (net .config) j j s s)
 
   -- who can take it is in one state
   in-state-lt : (to state : ℕ) → bitAnd to (inState net state) < 2 ^ 64
@@ -117,11 +123,17 @@ pub rows-filled : (net : Net) (sent : ℕ → Sends) {states : States} {rows : L
     → ((j : ℕ) → j < net .config .k → sent j ≡ sentIn net j) → states ≡ statesOf net → HoldTakers (net .config .k) states sent rows z → Filled rules net rows z
 rows-filled net sent few are e H =
     record {
-      kinds = omega arith;
       few = few;
       are = record { row = λ kind s h l m. H .row kind s h l m ∙ ap₂ (takersIn kind) (are s m) e ∙ receivers-are net s m few kind h l };
       sizes = H .sizes;
     }
+
+-- so what is picked by them, where nothing is carried back, is what a draw picks
+pub picked-flat : (net : Net) {rows : List ℕ} {z : Sizes} → Filled rules net rows z → (net .carrying ≡ 1 → ⊥) → {t : Config} → t ≡ net .config
+    → (d : ℕ) {p : Drawn} → p ≡ pickedBySize rows z (t .k) d → p ≡ picked (listed rules net) d
+picked-flat net {rows = rows} {z = z} F flat told d e =
+    let four : rules .kinds net ≤ 4 = subst (λ (b : Bool). cond b tell report ≤ 4) (sym (ne-eqb (net .carrying) 1 flat)) (omega arith) in
+    of-list rules net F four d (e ∙ ap (λ (t : Config). pickedBySize rows z (t .k) d) told)
 
 -- a station that is not active sends nothing
 pub idle-sends : (t : Config) (j : ℕ) (s : Station) → (s .state ≡ active → ⊥) → record { starts = 0; home = 0; report = 0 } ≡ sendsOf t j s

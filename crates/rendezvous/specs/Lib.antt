@@ -1,5 +1,6 @@
 pub mod Net
 pub mod Figure
+pub mod Telling
 pub mod Rules
 pub mod Together
 pub mod Opening

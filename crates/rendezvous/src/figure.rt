@@ -1,27 +1,36 @@
 // A step of stations that meet: whether it is in range and allowed, and its two stations after it, by the events of its two stations (document 001,
 // Figure 2).
 use crate::ANSWER;
-use crate::KINDS;
+use crate::CARRYING;
 use crate::PASS;
 use crate::REPORT;
+use crate::TELL;
 use crate::WAKE;
+use crate::telling;
 use aggregate::Config;
 use schedule::Step;
 use station::Station;
 ghost use mathlib.Core.Path.{_≡_};
-ghost use mathlib.Core.Bool.{true};
-ghost use Prim.Native.Nat.{_<_};
+ghost use mathlib.Core.Bool.{true, cond};
+ghost use mathlib.Core.List.{List};
+ghost use Prim.Native.Nat.{ℕ, _<_};
+ghost use lib.Dec.{eqb};
 ghost use Rattle.aggregate.specs.Aggregate.{rootOf, joinable};
 ghost use Rattle.schedule.specs.Rules.{stepInRange};
-ghost use Rattle.stations.specs.Words.{spareIn};
-ghost use Rattle.rendezvous.specs.Net.{netIn, station};
+ghost use Rattle.stations.specs.Stations.{stationAt};
+ghost use Rattle.stations.specs.Words.{configIn, stationsIn, spareIn};
+ghost use Rattle.rendezvous.specs.Net.{netIn};
 ghost use Rattle.rendezvous.specs.Figure.{report, mayStep};
-ghost use Rattle.rendezvous.specs.internal.Receivers.{sentBy, receivedBy, Made};
+ghost use Rattle.rendezvous.specs.Telling.{tell};
+ghost use Rattle.rendezvous.specs.Rules.{guard};
+ghost use Rattle.rendezvous.specs.internal.Receivers.{sentBy, receivedBy, madeOf};
 
-pub(crate) fn is_in_range(t: Config, step: Step) -> bool
-    ensures { λ r. ⌜ r ≡ stepInRange 4 report (t .k) (rootOf t) step ⌝ }
+// Whether a step is in range, in a net that carries back (1) or not.
+pub(crate) fn is_in_range(t: Config, carrying: u8, step: Step) -> bool
+    ensures { λ r. ⌜ r ≡ stepInRange (cond (eqb carrying 1) tell report) report (t .k) (rootOf t) step ⌝ }
 {
-    stations::is_in_range(KINDS, REPORT, t.k, aggregate::root(t), step)
+    let kinds = if carrying == CARRYING { TELL } else { REPORT };
+    stations::is_in_range(kinds, REPORT, t.k, aggregate::root(t), step)
 }
 
 // Whether the step's sender s and its receiver r let it be made.
@@ -52,14 +61,32 @@ pub(crate) fn may_step(t: Config, step: Step, s: Station, r: Station) -> bool
     }
 }
 
+// Whether the step is allowed, by its kind.
+pub(crate) fn is_allowed(net: &[u64; 705], t: Config, step: Step) -> bool
+    requires places { ⌜ (step .sender < 64) × (step .receiver < 64) × (rootOf t < 64) ⌝ }
+    requires config { ⌜ t ≡ configIn (now net) ⌝ }
+    ensures { λ r. ⌜ ((kept : List ℕ) → r ≡ guard (netIn (now (net .entry)) kept) step) ⌝ }
+{
+    let s = stations::load(net, step.sender);
+    let r = stations::load(net, step.receiver);
+    if step.kind == TELL {
+        let desk = stations::load(net, aggregate::root(t));
+        return telling::may_tell(t, step, desk, s, r);
+    }
+    may_step(t, step, s, r)
+}
+
 // The sender after a step.
 pub(crate) fn send(step: Step, s: Station) -> Station
     ensures { λ r. ⌜ r ≡ sentBy (step .kind) (step .receiver) s ⌝ }
 {
-    if (step.kind == WAKE) | (step.kind == PASS) {
-        return s.start_sent(step.receiver);
+    let kind = step.kind;
+    match kind {
+        WAKE => s.start_sent(step.receiver),
+        PASS => s.start_sent(step.receiver),
+        TELL => s,
+        _ => s.ended(),
     }
-    s.ended()
 }
 
 // The receiver r after a step from s.
@@ -75,32 +102,34 @@ pub(crate) fn receive(t: Config, step: Step, s: Station, r: Station) -> Station
             let given = s.held;
             r.answer_taken(t, given)
         }
+        TELL => telling::hear_total(r),
         _ => r.ended(),
     }
 }
 
-// The two stations of a step, after it.
-pub(crate) struct Moved {
-    pub(crate) sender: Station,
-    pub(crate) receiver: Station,
+// The place of a station, which a compiler sees to be one: so it tests nothing where the station is read and stored.
+fn place(i: u8) -> u8
+    requires { ⌜ i < 64 ⌝ }
+    ensures { λ r. ⌜ r ≡ i ⌝ }
+{
+    i % 64
 }
 
-// A step that is allowed, made.
-pub(crate) fn make(net: &mut [u64; 705], t: Config, step: Step) -> Moved
+// A step that is allowed, made. Who needs its two stations afterwards reads of them what he needs.
+pub(crate) fn make(net: &mut [u64; 705], totals: &mut [u64; 576], t: Config, step: Step)
     requires places { ⌜ (step .sender < 64) × (step .receiver < 64) ⌝ }
-    requires config { ⌜ t ≡ netIn (now net) .config ⌝ }
-    requires joins { ⌜ joinable (netIn (now net) .config) (station (netIn (now net)) (step .receiver) .held) (station (netIn (now net)) (step .sender) .held) ≡ true ⌝ }
-    ensures made { λ r. ⌜ Made (netIn (now (net .entry))) step (r .sender) (r .receiver) (netIn (now (net .exit))) ⌝ }
-    ensures spare { λ r. ⌜ spareIn (now (net .exit)) ≡ spareIn (now (net .entry)) ⌝ }
+    requires config { ⌜ t ≡ configIn (now net) ⌝ }
+    requires joins { ⌜ joinable (configIn (now net)) (stationAt (stationsIn (now net)) (step .receiver) .held) (stationAt (stationsIn (now net)) (step .sender) .held) ≡ true ⌝ }
+    ensures made { λ _. ⌜ netIn (now (net .exit)) (now (totals .exit)) ≡ madeOf (netIn (now (net .entry)) (now (totals .entry))) step ⌝ }
+    ensures spare { λ _. ⌜ spareIn (now (net .exit)) ≡ spareIn (now (net .entry)) ⌝ }
 {
-    let sender = stations::load(net, step.sender);
-    let receiver = stations::load(net, step.receiver);
+    let from = place(step.sender);
+    let to = place(step.receiver);
+    let sender = stations::load(net, from);
+    let receiver = stations::load(net, to);
     let s = send(step, sender);
     let r = receive(t, step, sender, receiver);
-    stations::store(net, step.sender, s);
-    stations::store(net, step.receiver, r);
-    Moved {
-        sender: s,
-        receiver: r,
-    }
+    stations::store(net, from, s);
+    stations::store(net, to, r);
+    telling::keep_total(totals, t, step, sender);
 }

@@ -2,26 +2,26 @@
 use linemap::Map;
 use refusal::Refusal;
 use schedule::Answer;
-use schedule::RunAnswer;
+use schedule::Ran;
 use schedule::Step;
 use schedule::rows::Drawn;
 use topology::Verdict;
 ghost use mathlib.Core.Path.{_≡_};
-ghost use mathlib.Core.Bool.{false};
-ghost use Rattle.refusal.specs.Refusal.{numberOf};
-ghost use Rattle.refusal.specs.declared.Refusal.the-variants.{OutOfForm};
 ghost use Rattle.linemap.specs.Openings.{openingOf};
 ghost use Rattle.schedule.specs.Outcome.{stepOutcomeOf, runOutcomeOf};
 ghost use Rattle.schedule.specs.Draws.{stepOn, drawOn, runOn};
-ghost use Rattle.stations.specs.Words.{spareIn};
-ghost use Rattle.rendezvous.specs.Net.{Net, netIn};
+ghost use Rattle.rendezvous.specs.Net.{netIn, besideIn};
 ghost use Rattle.rendezvous.specs.Rules.{rules};
 ghost use Rattle.rendezvous.specs.Opening.{rendezvousOpening};
 
 mod figure;
+mod form;
 mod listing;
+mod telling;
 
-// The kinds of step; they are numbered 1 to KINDS.
+pub use form::is_well_formed;
+
+// The kinds of step, TELL where totals are carried back.
 pub const WAKE: u8 = 1;
 
 pub const PASS: u8 = 2;
@@ -30,19 +30,18 @@ pub const ANSWER: u8 = 3;
 
 pub const REPORT: u8 = 4;
 
-const KINDS: u8 = 4;
+pub const TELL: u8 = 5;
 
-// What a run answers, the steps made, and whether the net reached is quiescent (01: at rest).
-pub struct Ran {
-    pub answer: RunAnswer,
-    pub steps: usize,
-    pub at_rest: bool,
-}
+// The flag of a net that carries totals back.
+const CARRYING: u8 = 1;
 
-// The fresh net of an accepted map; any other opens none.
-pub fn fresh(m: Map, net: &mut [u64; 705]) -> Verdict
-    ensures opening { λ r. ⌜ openingOf r (netIn (now (net .exit))) ≡ rendezvousOpening m (netIn (now (net .entry))) ⌝ }
-    ensures spare { λ r. ⌜ spareIn (now (net .exit)) ≡ spareIn (now (net .entry)) ⌝ }
+// The state of a station that was told the total.
+pub const TOLD: u8 = 3;
+
+// The fresh net of an accepted map, opened for carrying back or not; any other map opens none.
+pub fn fresh(m: Map, carrying: bool, net: &mut [u64; 705], totals: &mut [u64; 576]) -> Verdict
+    ensures opening { λ r. ⌜ openingOf r (netIn (now (net .exit)) (now (totals .exit))) ≡ rendezvousOpening carrying m (netIn (now (net .entry)) (now (totals .entry))) ⌝ }
+    ensures beside { λ r. ⌜ besideIn (now (net .exit)) ≡ besideIn (now (net .entry)) ⌝ }
 {
     let verdict = linemap::accept(m);
     if let Verdict::Refused(fault) = verdict {
@@ -52,37 +51,37 @@ pub fn fresh(m: Map, net: &mut [u64; 705]) -> Verdict
     let counts = m.counts;
     let neighbours = m.neighbours;
     stations::put_fresh(net, t, counts, neighbours);
+    form::put_carrying(net, carrying);
+    stations::clear_kept(totals);
     Verdict::Accepted
 }
 
 // One step: refused by 11, 12 or 13, or made.
-pub fn step(net: &mut [u64; 705], step: Step) -> Answer
-    ensures outcome { λ r. ⌜ stepOutcomeOf r (netIn (now (net .exit))) ≡ stepOn rules (netIn (now (net .entry))) step ⌝ }
-    ensures spare { λ r. ⌜ spareIn (now (net .exit)) ≡ spareIn (now (net .entry)) ⌝ }
+pub fn step(net: &mut [u64; 705], totals: &mut [u64; 576], step: Step) -> Answer
+    ensures outcome { λ r. ⌜ stepOutcomeOf r (netIn (now (net .exit)) (now (totals .exit))) ≡ stepOn rules (netIn (now (net .entry)) (now (totals .entry))) step ⌝ }
+    ensures beside { λ r. ⌜ besideIn (now (net .exit)) ≡ besideIn (now (net .entry)) ⌝ }
 {
-    if !stations::are_well_formed(net) {
+    if !is_well_formed(net, totals) {
         return Answer::Refused(Refusal::OutOfForm);
     }
     let t = stations::config_in(net);
-    if !figure::is_in_range(t, step) {
+    if !figure::is_in_range(t, form::carrying_in(net), step) {
         return Answer::Refused(Refusal::OutOfRange);
     }
-    let sender = stations::load(net, step.sender);
-    let receiver = stations::load(net, step.receiver);
-    if !figure::may_step(t, step, sender, receiver) {
+    if !figure::is_allowed(net, t, step) {
         return Answer::Refused(Refusal::NotAllowed);
     }
-    let moved = figure::make(net, t, step);
+    figure::make(net, totals, t, step);
     Answer::Made(step)
 }
 
 // The step that a draw picks, made: refused by 11, or by 14 where no step is allowed.
-pub fn draw(net: &mut [u64; 705], d: u16) -> Answer
-    ensures outcome { λ r. ⌜ stepOutcomeOf r (netIn (now (net .exit))) ≡ drawOn rules (netIn (now (net .entry))) d ⌝ }
-    ensures spare { λ r. ⌜ spareIn (now (net .exit)) ≡ spareIn (now (net .entry)) ⌝ }
+pub fn draw(net: &mut [u64; 705], totals: &mut [u64; 576], d: u16) -> Answer
+    ensures outcome { λ r. ⌜ stepOutcomeOf r (netIn (now (net .exit)) (now (totals .exit))) ≡ drawOn rules (netIn (now (net .entry)) (now (totals .entry))) d ⌝ }
+    ensures beside { λ r. ⌜ besideIn (now (net .exit)) ≡ besideIn (now (net .entry)) ⌝ }
 {
     let mut kept = [0u64; 192];
-    let found = listing::survey(net, &mut kept);
+    let found = listing::survey(net, totals, &mut kept);
     if !found.formed {
         return Answer::Refused(Refusal::OutOfForm);
     }
@@ -90,48 +89,26 @@ pub fn draw(net: &mut [u64; 705], d: u16) -> Answer
     let states = found.states;
     let mut rows = [0u64; 256];
     let sizes = listing::fill(&mut rows, t.k, &kept, states);
-    let drawn = schedule::rows::pick(&rows, sizes, t.k, d);
+    let drawn = listing::choose(net, &rows, sizes, t, d);
     let Drawn::Step(step) = drawn else {
         return Answer::Refused(Refusal::NothingAllowed);
     };
-    let moved = figure::make(net, t, step);
+    figure::make(net, totals, t, step);
     Answer::Made(step)
 }
 
-// What a run gives that stops in form, whatever the net.
-fn stop(steps: usize, rest: bool) -> Ran
-    ensures { λ r. ⌜ ((net : Net) → runOutcomeOf (r .answer) (r .steps) (r .«at_rest») net ≡ record { number = 0; steps = steps; rest = rest; net = net }) ⌝ }
-{
-    Ran {
-        answer: RunAnswer::Stopped,
-        steps: steps,
-        at_rest: rest,
-    }
-}
-
-// What a run gives that starts outside the form, or has left it.
-fn stop_outside(steps: usize) -> Ran
-    ensures { λ r. ⌜ ((net : Net) → runOutcomeOf (r .answer) (r .steps) (r .«at_rest») net
-        ≡ record { number = numberOf OutOfForm; steps = steps; rest = false; net = net }) ⌝ }
-{
-    Ran {
-        answer: RunAnswer::Refused(Refusal::OutOfForm),
-        steps: steps,
-        at_rest: false,
-    }
-}
-
 // The steps that the draws pick, one after the other, until they are used up, one is refused, or the form is left. The counter is the place
-// among the draws and the number of steps made. The form is tested once: after that, only what the receiver has gathered can break it. What
-// the stations may send is kept, and only that of the two that a step changes is found anew; the rows follow each step.
-pub fn run(net: &mut [u64; 705], draws: &[u16]) -> Ran
-    ensures outcome { λ r. ⌜ runOutcomeOf (r .answer) (r .steps) (r .«at_rest») (netIn (now (net .exit))) ≡ runOn rules (netIn (now (net .entry))) (now (draws .entry)) ⌝ }
-    ensures spare { λ r. ⌜ spareIn (now (net .exit)) ≡ spareIn (now (net .entry)) ⌝ }
+// among the draws and the number of steps made. The form is tested once: after that, only the receiver can break it. What
+// the stations may send is kept, and only that of the two that a step changes is found anew; the rows follow each step. A draw chooses
+// as in `choose`, which is not called for it: a net without carrying back pays one test.
+pub fn run(net: &mut [u64; 705], totals: &mut [u64; 576], draws: &[u16]) -> Ran
+    ensures outcome { λ r. ⌜ runOutcomeOf r (netIn (now (net .exit)) (now (totals .exit))) ≡ runOn rules (netIn (now (net .entry)) (now (totals .entry))) (now (draws .entry)) ⌝ }
+    ensures beside { λ r. ⌜ besideIn (now (net .exit)) ≡ besideIn (now (net .entry)) ⌝ }
 {
     let mut kept = [0u64; 192];
-    let found = listing::survey(net, &mut kept);
+    let found = listing::survey(net, totals, &mut kept);
     if !found.formed {
-        return stop_outside(0);
+        return schedule::stop_outside(0);
     }
     let k = stations::config_in(net).k;
     let mut states = found.states;
@@ -140,21 +117,25 @@ pub fn run(net: &mut [u64; 705], draws: &[u16]) -> Ran
     let mut made: usize = 0;
     while made < draws.len() {
         let t = stations::config_in(net);
-        let drawn = schedule::rows::pick(&rows, sizes, t.k, draws[made]);
-        let Drawn::Step(step) = drawn else {
-            return stop(made, true);
+        let drawn = if form::carrying_in(net) == CARRYING {
+            listing::choose_beside(net, &rows, sizes, t, draws[made])
+        } else {
+            schedule::rows::pick(&rows, sizes, t.k, draws[made])
         };
-        let moved = figure::make(net, t, step);
+        let Drawn::Step(step) = drawn else {
+            return schedule::stop(made, true);
+        };
+        figure::make(net, totals, t, step);
         let old = states;
-        states = listing::renew(&mut kept, states, t, step.sender, moved.sender);
-        states = listing::renew(&mut kept, states, t, step.receiver, moved.receiver);
+        states = listing::renew(&mut kept, states, net, t, step.sender);
+        states = listing::renew(&mut kept, states, net, t, step.receiver);
         made += 1;
-        let held = moved.receiver.held;
-        if !aggregate::is_bounded(t, held) {
-            return stop_outside(made);
+        if !form::keeps_form(net, t, step) {
+            return schedule::stop_outside(made);
         }
         sizes = listing::follow(&mut rows, sizes, t.k, &kept, old, states, step);
     }
-    let c = schedule::rows::total(sizes);
-    stop(made, c == 0)
+    let t = stations::config_in(net);
+    let rest = listing::is_at_rest(net, &rows, sizes, t);
+    schedule::stop(made, rest)
 }

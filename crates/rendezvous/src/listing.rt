@@ -1,15 +1,27 @@
 // What each station may send, kept while a run goes on, and the rows of the allowed steps: for each sender and kind, the receivers, as a set.
+use crate::CARRYING;
+use crate::form;
+use crate::telling;
 use aggregate::Config;
 use bitset::bit_if;
 use schedule::Step;
+use schedule::rows::Drawn;
 use schedule::rows::Sizes;
 use station::Station;
 ghost use mathlib.Core.Path.{_≡_};
 ghost use mathlib.Core.Bool.{false};
-ghost use Prim.Native.Nat.{_≤_, _<_};
+ghost use mathlib.Core.List.{List};
+ghost use Prim.Native.Nat.{ℕ, _≤_, _<_};
 ghost use lib.ListN.{length};
-ghost use Rattle.schedule.specs.internal.Rows.{sizesWithout, others};
-ghost use Rattle.rendezvous.specs.Net.{netIn};
+ghost use lib.Dec.{eqb};
+ghost use Rattle.aggregate.specs.Aggregate.{rootOf};
+ghost use Rattle.schedule.specs.Listing.{listed};
+ghost use Rattle.schedule.specs.Draws.{picked};
+ghost use Rattle.schedule.specs.internal.Rows.{sizesWithout, others, Filled};
+ghost use Rattle.stations.specs.Stations.{stationAt};
+ghost use Rattle.stations.specs.Words.{configIn, stationsIn};
+ghost use Rattle.rendezvous.specs.Net.{netIn, carryingIn};
+ghost use Rattle.rendezvous.specs.Rules.{rules};
 ghost use Rattle.rendezvous.specs.internal.Receivers.{restated, sendsOf, keptAt, withSends};
 ghost use Rattle.rendezvous.specs.internal.Receivers.{Agree, Renewed, Surveyed, HasRows, HoldTakers, HoldSome};
 
@@ -85,11 +97,18 @@ fn read_sends(kept: &[u64; 192], j: u8) -> Sends
     }
 }
 
-// What is kept of a net, where station j has become s: what it may send, and the states.
-pub(crate) fn renew(kept: &mut [u64; 192], states: States, t: Config, j: u8, s: Station) -> States
+// What is kept of a net, where station j has become another: what it may send, and the states.
+pub(crate) fn renew(
+    kept: &mut [u64; 192],
+    states: States,
+    net: &[u64; 705],
+    t: Config,
+    j: u8,
+) -> States
     requires { ⌜ j < 64 ⌝ }
-    ensures { λ r. ⌜ Renewed t j s (now (kept .entry)) states (now (kept .exit)) r ⌝ }
+    ensures { λ r. ⌜ Renewed t j (stationAt (stationsIn (now (net .entry))) j) (now (kept .entry)) states (now (kept .exit)) r ⌝ }
 {
+    let s = stations::load(net, j);
     let sends = find_sends(t, j, s);
     keep(kept, j, sends);
     restate(states, j, s.state)
@@ -115,10 +134,14 @@ fn unformed() -> Findings
 }
 
 // One pass over all stations: the form is tested, the states are found, and what each may send is kept.
-pub(crate) fn survey(net: &[u64; 705], kept: &mut [u64; 192]) -> Findings
+pub(crate) fn survey(net: &[u64; 705], totals: &[u64; 576], kept: &mut [u64; 192]) -> Findings
     requires { ⌜ length (now kept) ≡ 192 ⌝ }
-    ensures { λ r. ⌜ Surveyed (netIn (now (net .entry))) (r .formed) (r .states) (now (kept .exit)) ⌝ }
+    ensures { λ r. ⌜ Surveyed (netIn (now (net .entry)) (now (totals .entry))) (r .formed) (r .states) (now (kept .exit)) ⌝ }
 {
+    let carrying = form::carrying_in(net);
+    if CARRYING < carrying {
+        return unformed();
+    }
     let t = stations::config_in(net);
     if !aggregate::is_valid(t) {
         return unformed();
@@ -129,7 +152,12 @@ pub(crate) fn survey(net: &[u64; 705], kept: &mut [u64; 192]) -> Findings
     let mut j: u8 = 0;
     while j < k {
         let s = stations::load(net, j);
-        if !s.is_well_formed(t, j) {
+        let placed = if carrying == CARRYING {
+            form::is_carrying_place(t, j, s, totals)
+        } else {
+            s.is_well_formed(t, j)
+        };
+        if !placed {
             return unformed();
         }
         asleep += bit_if(s.state == station::ASLEEP, j);
@@ -206,7 +234,7 @@ fn refill(
     put_rows(rows, rest, states, sender, sends)
 }
 
-// Below so many stations, all rows are found anew sooner than those are found that a step changes.
+// Below so many stations, all rows are found anew sooner than those are found that a change of states changes.
 const FEW: u8 = 16;
 
 // The rows after a step, where they held those before it. Of the senders that are not in the step, only those need theirs anew that may send to
@@ -225,12 +253,13 @@ pub(crate) fn follow(
     requires rows { ⌜ HoldSome (others step) k old (keptAt (now kept)) (now rows) sizes ⌝ }
     ensures { λ r. ⌜ HoldTakers k states (keptAt (now (kept .entry))) (now (rows .exit)) r ⌝ }
 {
-    if k < FEW {
+    let same = (states.asleep == old.asleep) & (states.active == old.active);
+    if !same & (k < FEW) {
         return fill(rows, k, kept, states);
     }
     let one = refill(rows, sizes, kept, states, step.sender);
     let mut all = refill(rows, one, kept, states, step.receiver);
-    if (states.asleep == old.asleep) & (states.active == old.active) {
+    if same {
         return all;
     }
     let both = bitset::union(bit_if(true, step.sender), bit_if(true, step.receiver));
@@ -246,4 +275,53 @@ pub(crate) fn follow(
         x += 1;
     }
     all
+}
+
+// The step that a draw picks where totals are carried back: of those that the rows list, and of the tells after them.
+pub(crate) fn choose_beside(
+    net: &[u64; 705],
+    rows: &[u64; 256],
+    sizes: Sizes,
+    t: Config,
+    d: u16,
+) -> Drawn
+    requires config { ⌜ t ≡ configIn (now net) ⌝ }
+    requires places { ⌜ (t .k ≤ 64) × (rootOf t < 64) ⌝ }
+    requires rows { ⌜ length (now rows) ≡ 256 ⌝ }
+    requires back { ⌜ carryingIn (now net) ≡ 1 ⌝ }
+    ensures { λ r. ⌜ ((kept : List ℕ) → Filled rules (netIn (now (net .entry)) kept) (now (rows .entry)) sizes
+        → r ≡ picked (listed rules (netIn (now (net .entry)) kept)) d) ⌝ }
+{
+    let mut tells = [0u64; 260];
+    telling::fill_tells(&mut tells, net, t);
+    schedule::rows::pick_beside(rows, sizes, &tells, t.k, d)
+}
+
+// The step that a draw picks.
+pub(crate) fn choose(net: &[u64; 705], rows: &[u64; 256], sizes: Sizes, t: Config, d: u16) -> Drawn
+    requires config { ⌜ t ≡ configIn (now net) ⌝ }
+    requires places { ⌜ (t .k ≤ 64) × (rootOf t < 64) ⌝ }
+    requires rows { ⌜ length (now rows) ≡ 256 ⌝ }
+    ensures { λ r. ⌜ ((kept : List ℕ) → Filled rules (netIn (now (net .entry)) kept) (now (rows .entry)) sizes
+        → r ≡ picked (listed rules (netIn (now (net .entry)) kept)) d) ⌝ }
+{
+    if form::carrying_in(net) == CARRYING {
+        return choose_beside(net, rows, sizes, t, d);
+    }
+    schedule::rows::pick(rows, sizes, t.k, d)
+}
+
+// Whether the net is quiescent (01: at rest): no step is allowed that a draw could pick.
+pub(crate) fn is_at_rest(net: &[u64; 705], rows: &[u64; 256], sizes: Sizes, t: Config) -> bool
+    requires config { ⌜ t ≡ configIn (now net) ⌝ }
+    requires places { ⌜ (t .k ≤ 64) × (rootOf t < 64) ⌝ }
+    requires rows { ⌜ length (now rows) ≡ 256 ⌝ }
+    ensures { λ r. ⌜ ((kept : List ℕ) → Filled rules (netIn (now (net .entry)) kept) (now (rows .entry)) sizes
+        → r ≡ eqb (length (listed rules (netIn (now (net .entry)) kept))) 0) ⌝ }
+{
+    let left = choose(net, rows, sizes, t, 0);
+    match left {
+        Drawn::Nothing => true,
+        Drawn::Step(_) => false,
+    }
 }

@@ -49,4 +49,4 @@ module _ {Net : Type 0} (R : Rules Net) (net : Net) (s : Step) where
   pub picked-allowed : (d : ℕ) → picked (listed R net) d ≡ drawn.Step s → allowed R net s ≡ true
   unfolding listed
   picked-allowed d e =
-      picked-passes (allowed R net) d s (listed R net) (select-passes (allowed R net) (candidates (R .kinds) (R .stations net))) e
+      picked-passes (allowed R net) d s (listed R net) (select-passes (allowed R net) (candidates (R .kinds net) (R .stations net))) e

@@ -16,8 +16,8 @@ use Rattle.bitset.specs.Set.{size}
 use Rattle.bitset.proofs.Laws.{size-le}
 use Rattle.schedule.specs.declared.rows.Sizes.{Sizes}
 use Rattle.schedule.specs.Listing.{numbersFrom, range, select}
-use Rattle.schedule.specs.Rows.{stepsFrom, stepsOfKind, rowAt, inRows, added}
-use Rattle.schedule.specs.internal.Rows.{fourSet, sizeOf, sizesOf}
+use Rattle.schedule.specs.Rows.{stepsFrom, stepsOfKind, rowAt, inRows, added, sizeOf}
+use Rattle.schedule.specs.internal.Rows.{fourSet, sizesOf}
 use Rattle.schedule.specs.Rows as rows
 use Rattle.schedule.proofs.Parts.{select-append}
 use Rattle.schedule.proofs.RowLists.{row-length}

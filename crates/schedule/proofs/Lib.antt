@@ -9,6 +9,7 @@ pub mod Outcomes
 pub mod Running
 pub mod Drawing
 pub mod Sized
+pub mod Beside
 pub mod Counting
 pub mod Resizing
 pub mod Answers

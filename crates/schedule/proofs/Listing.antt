@@ -7,7 +7,7 @@ use mathlib.Core.List.{List, [], _∷_, flatMap, List·Memᴰ, List·Memᴰ·hea
 use Prim.Native.Nat.{ℕ, zero, suc, _+_, _-_, _≤_, _<_}
 use native.Mathlib.Omega.{arith}
 use lib.Dec.{leb, ltb, eqb}
-use borrow.Author.Tests.{leb-true, ltb-true, eqb-true, lt-ltb, eq-eqb}
+use borrow.Author.Tests.{leb-true, ltb-true, eqb-true, le-leb, lt-ltb, eq-eqb, ne-eqb}
 use Rattle.finite.proofs.Cases.{clash, by-bool, by-eq, and-both}
 use Rattle.wave.specs.internal.Claim.{AtRest}
 use Rattle.schedule.specs.declared.Step.{Step}
@@ -65,7 +65,7 @@ module _ {Net : Type 0} (R : Rules Net) where
   -- what range asks of kind and stations
   pub record Bounds (net : Net) (s : Step) : Type 0 where
     pub kind-low : 1 ≤ s .kind
-    pub kind-high : s .kind ≤ R .kinds
+    pub kind-high : s .kind ≤ R .kinds net
     pub sender-low : s .sender < R .stations net
     pub receiver-low : s .receiver < R .stations net
     pub report-at-root : s .kind ≡ R .reports → (s .sender ≡ R .root net) × (s .receiver ≡ R .root net)
@@ -74,7 +74,7 @@ module _ {Net : Type 0} (R : Rules Net) where
   unfolding inRange
   range-bounds net s h =
       let low = leb 1 (s .kind) in
-      let high = leb (s .kind) (R .kinds) in
+      let high = leb (s .kind) (R .kinds net) in
       let from = ltb (s .sender) (R .stations net) in
       let to = ltb (s .receiver) (R .stations net) in
       let at-root = not (eqb (s .kind) (R .reports)) || eqb (s .sender) (R .root net) && eqb (s .receiver) (R .root net) in
@@ -84,13 +84,26 @@ module _ {Net : Type 0} (R : Rules Net) where
       let d = and-both low high (c .0) in
       record {
         kind-low = leb-true 1 (s .kind) (d .0);
-        kind-high = leb-true (s .kind) (R .kinds) (d .1);
+        kind-high = leb-true (s .kind) (R .kinds net) (d .1);
         sender-low = ltb-true (s .sender) (R .stations net) (c .1);
         receiver-low = ltb-true (s .receiver) (R .stations net) (b .1);
         report-at-root = λ e.
             let both = and-both (eqb (s .sender) (R .root net)) (eqb (s .receiver) (R .root net)) (rw (eq-eqb (s .kind) (R .reports) e) at (a .1)) in
             (eqb-true (s .sender) (R .root net) (both .0), eqb-true (s .receiver) (R .root net) (both .1));
       }
+
+  pub bounds-range : (net : Net) (s : Step) → Bounds net s → inRange R net s ≡ true
+  unfolding inRange
+  bounds-range net s b =
+      rw (
+        le-leb 1 (s .kind) (b .kind-low),
+        le-leb (s .kind) (R .kinds net) (b .kind-high),
+        lt-ltb (s .sender) (R .stations net) (b .sender-low),
+        lt-ltb (s .receiver) (R .stations net) (b .receiver-low),
+      )
+      (by-eq (s .kind) (R .reports)
+      (λ e. let r = b .report-at-root e in rw (eq-eqb (s .kind) (R .reports) e, eq-eqb (s .sender) (R .root net) (r .0), eq-eqb (s .receiver) (R .root net) (r .1)))
+      (λ f. rw (ne-eqb (s .kind) (R .reports) f)))
 
   -- an allowed step has its receiver in the net
   pub allowed-low : (net : Net) (s : Step) → (ltb (s .receiver) (R .stations net) && allowed R net s) ≡ allowed R net s
@@ -105,13 +118,13 @@ module _ {Net : Type 0} (R : Rules Net) where
   unfolding listed allowed
   listed-complete net s h =
       let b = range-bounds net s (and-both (inRange R net s) (R .guard net s) h .0) in
-      select-has (allowed R net) s (candidates (R .kinds) (R .stations net)) h
-      (candidates-have (R .kinds) (R .stations net) (s .kind) (s .sender) (s .receiver) (b .kind-low) (b .kind-high) (b .sender-low) (b .receiver-low))
+      select-has (allowed R net) s (candidates (R .kinds net) (R .stations net)) h
+      (candidates-have (R .kinds net) (R .stations net) (s .kind) (s .sender) (s .receiver) (b .kind-low) (b .kind-high) (b .sender-low) (b .receiver-low))
 
   -- every entry of the list is an allowed step
   pub listed-allowed : (net : Net) (s : Step) → List·Memᴰ s (listed R net) → Allowed net s
   unfolding listed
-  listed-allowed net s m = select-passes (allowed R net) s (candidates (R .kinds) (R .stations net)) m
+  listed-allowed net s m = select-passes (allowed R net) s (candidates (R .kinds net) (R .stations net)) m
 
   pub quiescent-at-rest : (net : Net) → (quiescent R net ≡ true) ↔ AtRest Allowed net
   unfolding quiescent isEmpty

@@ -1,7 +1,7 @@
 -- Laws of the parts of the list of steps: one more kind, sender or receiver, entries by number, and lengths. Assumes nothing.
 use mathlib.Core.Bool.{Bool, true, false, cond}
 use mathlib.Core.Path.{_≡_, refl, sym, _∙_, ap}
-use mathlib.Core.List.{List, [], _∷_, _++_, flatMap}
+use mathlib.Core.List.{List, [], _∷_, _++_, flatMap, append-nil, append-assoc}
 use Prim.Native.Nat.{ℕ, zero, suc, _+_, _-_, _*_, _≤_, _<_}
 use native.Mathlib.Nat.{suc-mul, zero-mul}
 use native.Mathlib.Numerals.{add-one}
@@ -52,6 +52,20 @@ module _ (w : ℕ) where
   unfolding stepsOf flatMap
   stepsOf-more kinds k kind h = rw (range-more kind (suc kinds) (omega arith))
 
+  -- a fifth kind after four
+  pub five-kinds : (k : ℕ) → stepsOf w 5 k 1 ≡ stepsOf w 4 k 1 ++ stepsOfKind w k 5 0
+  five-kinds k =
+      let part : ℕ → List Step = λ kind. stepsOfKind w k kind 0 in
+      let last : stepsOf w 5 k 5 ≡ part 5 = stepsOf-more 5 k 5 (omega arith) ∙ ap (λ (l : List Step). part 5 ++ l) (stepsOf-none 5 k 6 (omega arith)) ∙ append-nil (part 5) in
+      let from : (kind : ℕ) → kind ≤ 4 → stepsOf w 5 k (kind + 1) ≡ stepsOf w 4 k (kind + 1) ++ part 5 → stepsOf w 5 k kind ≡ stepsOf w 4 k kind ++ part 5 =
+      λ kind h e.
+      stepsOf-more 5 k kind (omega arith)
+      ∙ ap (λ (l : List Step). part kind ++ l) e
+      ∙ sym (append-assoc (part kind) (stepsOf w 4 k (kind + 1)) (part 5))
+      ∙ ap (λ (l : List Step). l ++ part 5) (sym (stepsOf-more 4 k kind h)) in
+      from 1 (omega arith) (from 2 (omega arith) (from 3 (omega arith) (from 4 (omega arith)
+      (last ∙ ap (λ (l : List Step). l ++ part 5) (sym (stepsOf-none 4 k 5 (omega arith)))))))
+
 -- entries of the steps that pass a test
 module _ (p : Step → Bool) where
   pub entry-met : (s : Step) (l : List Step) (n : ℕ) → p s ≡ true → n ≡ 0 → entry (select p (s ∷ l)) n ≡ At s
@@ -68,6 +82,12 @@ module _ (p : Step → Bool) where
   pub entry-skipped : (s : Step) (l : List Step) (n : ℕ) → p s ≡ false → entry (select p (s ∷ l)) n ≡ entry (select p l) n
   unfolding entry select
   entry-skipped s l n h = rw h
+
+  -- where all pass it, all are selected
+  pub select-all : ((s : Step) → p s ≡ true) → (l : List Step) → select p l ≡ l
+  unfolding select
+  select-all all [] = refl
+  select-all all (s ∷ l) = rw (all s) (ap (λ (x : List Step). s ∷ x) (select-all all l))
 
   pub select-append : (l m : List Step) → select p (l ++ m) ≡ select p l ++ select p m
   unfolding select
@@ -134,7 +154,7 @@ unfolding numbersFrom flatMap
 length-flat f m h a zero = sym (zero-mul m)
 length-flat f m h a (suc n) = length-append (f a) _ ∙ (let i = length-flat f m h (suc a) n in omega (arith, h a, suc-mul n m))
 
-length-stepsOfKind : (w k kind : ℕ) → length (stepsOfKind w k kind 0) ≡ k * w
+pub length-stepsOfKind : (w k kind : ℕ) → length (stepsOfKind w k kind 0) ≡ k * w
 unfolding stepsOfKind stepsFrom range
 length-stepsOfKind w k kind =
     let z : (n : ℕ) → n - 0 ≡ n = λ n. omega arith in

@@ -22,6 +22,11 @@ unfolding picked
 none-picked [] d e = refl
 none-picked (s ∷ l) d e = absurd (let z : _≡_ {A = ℕ} 0 1 = cc in omega arith)
 
+pub some-picked : {s : Step} (l : List Step) (d : ℕ) → picked l d ≡ drawn.Step s → length l ≡ 0 → ⊥
+unfolding picked
+some-picked [] d e z = absurd (let f : _≡_ {A = ℕ} 0 1 = cc in omega arith)
+some-picked (t ∷ l) d e z = omega arith
+
 pub picked-entry : (l : List Step) (d : ℕ) → (length l ≡ 0 → ⊥) → stepFound (entry l (d % length l)) ≡ picked l d
 unfolding picked
 picked-entry [] d z = absurd (z refl)

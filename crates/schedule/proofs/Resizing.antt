@@ -14,8 +14,8 @@ use Rattle.bitset.specs.Set.{size}
 use Rattle.bitset.proofs.Laws.{size-le}
 use Rattle.schedule.specs.declared.Step.{Step}
 use Rattle.schedule.specs.declared.rows.Sizes.{Sizes}
-use Rattle.schedule.specs.Rows.{rowAt, added, removed}
-use Rattle.schedule.specs.internal.Rows.{fourSet, sizeOf, sizesOf, sizesWithout, others, HoldRows}
+use Rattle.schedule.specs.Rows.{rowAt, added, removed, sizeOf}
+use Rattle.schedule.specs.internal.Rows.{fourSet, sizesOf, sizesWithout, others, HoldRows}
 use Rattle.schedule.proofs.Counting.{four-length, four-own, four-other, rows-sum}
 
 sum-most : (n : ℕ) (f : ℕ → ℕ) → ((i : ℕ) → i < n → f i ≤ 64) → sumTo addition n f ≤ 64 * n

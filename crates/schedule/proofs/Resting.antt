@@ -40,9 +40,9 @@ module _ {Net : Type 0} (R : Rules Net) where
         (λ r. by-bool (R .guard net s) (λ g. rw (formed, r, g)) (λ g. rw (formed, r, g)))
         (λ r. rw (formed, r))
 
-    pub accepted-listed : select (λ s. eqb (stepOn R net s .number) 0) (candidates (R .kinds) (R .stations net)) ≡ listed R net
+    pub accepted-listed : select (λ s. eqb (stepOn R net s .number) 0) (candidates (R .kinds net) (R .stations net)) ≡ listed R net
     unfolding listed
-    accepted-listed = ap (λ (p : Step → Bool). select p (candidates (R .kinds) (R .stations net))) (fun-ext accepted-allowed)
+    accepted-listed = ap (λ (p : Step → Bool). select p (candidates (R .kinds net) (R .stations net))) (fun-ext accepted-allowed)
 
     -- a draw is the single step of the entry that it picks
     pub draw-entry : (d : ℕ) → let c = length (listed R net) in

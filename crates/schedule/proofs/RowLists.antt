@@ -20,11 +20,11 @@ use Rattle.bitset.proofs.Laws.{size-sum, no-member-from, same-members, member-e
 use Rattle.bitset.proofs.Selected.{set-lt, set-none, set-member, set-has, bit-has, bit-lt}
 use Rattle.schedule.specs.declared.Step.{Step}
 use Rattle.schedule.specs.Rules.{Rules, inRange, allowed}
-use Rattle.schedule.specs.Listing.{numbersFrom, range, select, step, listed}
+use Rattle.schedule.specs.Listing.{numbersFrom, range, select, step, candidates, listed}
 use Rattle.schedule.specs.Rows.{stepsFrom, stepsOfKind, rowAt, inRows}
 use Rattle.schedule.specs.internal.Rows.{stepsOf, listedIn, AreRows}
 use Rattle.schedule.proofs.Listing.{allowed-low}
-use Rattle.schedule.proofs.Parts.{select-append, candidates-are, length-select, length-stepsOf}
+use Rattle.schedule.proofs.Parts.{select-append, candidates-are, five-kinds, length-select, length-stepsOf}
 
 -- how many of n steps pass a test
 length-passing : (p : Step → Bool) (f : ℕ → Step) (a n : ℕ)
@@ -78,67 +78,90 @@ select-row p q f a (suc k) (suc w) h same none =
     (ap (λ (l : List Step). cond (q (f a)) (f a ∷ l) l) (select-row p q f (suc a) k w (omega arith) (λ i g l. same i (omega arith) (omega arith)) (λ i g. none i (omega arith))))
 
 -- the row of a kind that a net does not have
-pub no-row : {Net : Type 0} (R : Rules Net) (net : Net) (kind s : ℕ) → R .kinds < kind
+pub no-row : {Net : Type 0} (R : Rules Net) (net : Net) (kind s : ℕ) → R .kinds net < kind
     → 0 ≡ setOf (R .stations net) (λ r. allowed R net (step kind s r))
 unfolding allowed inRange
-no-row R net kind s h = sym (set-none (R .stations net) _ (λ r. rw (lt-leb kind (R .kinds) h) (simp and-false)))
+no-row R net kind s h = sym (set-none (R .stations net) _ (λ r. rw (lt-leb kind (R .kinds net) h) (simp and-false)))
 
--- the rows of the steps that a net allows list them
-module _ {Net : Type 0} (R : Rules Net) (net : Net) (rows : List ℕ) (are : AreRows R net rows) (kinds : R .kinds ≤ 4) (few : R .stations net ≤ 64) where
-  abbrev k : ℕ
-  k = R .stations net
-
-  row-lists : (kind s : ℕ) → 1 ≤ kind → kind ≤ 4 → s < k
-      → select (inRows rows) (stepsFrom 64 kind s 0) ≡ select (allowed R net) (stepsFrom k kind s 0)
+-- the rows of a kind that are those of the steps allowed list them
+module _ {Net : Type 0} (R : Rules Net) (net : Net) (few : R .stations net ≤ 64) (rows : List ℕ) (kind : ℕ)
+    (are : (s : ℕ) → s < R .stations net → rowAt rows kind s ≡ setOf (R .stations net) (λ r. allowed R net (step kind s r))) where
+  row-lists : (s : ℕ) → s < R .stations net
+      → select (inRows rows) (stepsFrom 64 kind s 0) ≡ select (allowed R net) (stepsFrom (R .stations net) kind s 0)
   unfolding stepsFrom range inRows
-  row-lists kind s l h m =
+  row-lists s m =
+      let k = R .stations net in
       let test : ℕ → Bool = λ r. allowed R net (step kind s r) in
-      let row = are .row kind s l h m in
+      let row = are s m in
       let same : (n : ℕ) → n - 0 ≡ n = λ n. omega arith in
       rw (same k)
       (select-row (inRows rows) (allowed R net) (step kind s) 0 k 64 few
       (λ i a b. ap (member i) row ∙ set-member k test i (omega arith))
       (λ i a. ap (member i) row ∙ no-member-from k i (setOf k test) (set-lt k test) (omega arith)))
 
-  row-empty : (kind s : ℕ) → R .kinds < kind → kind ≤ 4 → s < k → select (inRows rows) (stepsFrom 64 kind s 0) ≡ []
+  kind-lists : select (inRows rows) (stepsOfKind 64 (R .stations net) kind 0) ≡ select (allowed R net) (stepsOfKind (R .stations net) (R .stations net) kind 0)
+  unfolding stepsOfKind range
+  kind-lists =
+      let k = R .stations net in
+      select-flat (inRows rows) (allowed R net) _ _ 0 (k - 0) (k - 0) (omega arith)
+      (λ s a b. row-lists s (omega arith))
+      (λ s a b. absurd (let z : ⊥ = omega arith in z))
+
+  row-empty : (s : ℕ) → R .kinds net < kind → s < R .stations net → select (inRows rows) (stepsFrom 64 kind s 0) ≡ []
   unfolding stepsFrom range inRows numbersFrom select
-  row-empty kind s h l m =
-      let row = are .row kind s (omega arith) l m ∙ sym (no-row R net kind s h) in
+  row-empty s h m =
+      let row = are s m ∙ sym (no-row R net kind s h) in
       select-row (inRows rows) (allowed R net) (step kind s) 0 0 64 (omega arith)
       (λ i a b. absurd (let z : ⊥ = omega arith in z))
       (λ i a. ap (member i) row ∙ member-empty i)
 
-  kind-lists : (kind : ℕ) → 1 ≤ kind → kind ≤ 4 → select (inRows rows) (stepsOfKind 64 k kind 0) ≡ select (allowed R net) (stepsOfKind k k kind 0)
-  unfolding stepsOfKind range
-  kind-lists kind h l =
-      select-flat (inRows rows) (allowed R net) _ _ 0 (k - 0) (k - 0) (omega arith)
-      (λ s a b. row-lists kind s h l (omega arith))
-      (λ s a b. absurd (let z : ⊥ = omega arith in z))
-
-  kind-empty : (kind : ℕ) → R .kinds < kind → kind ≤ 4 → select (inRows rows) (stepsOfKind 64 k kind 0) ≡ []
+  kind-empty : R .kinds net < kind → select (inRows rows) (stepsOfKind 64 (R .stations net) kind 0) ≡ []
   unfolding stepsOfKind range flatMap numbersFrom select
-  kind-empty kind h l =
-      select-flat (inRows rows) (allowed R net) _ (λ s. []) 0 0 (k - 0) (omega arith)
+  kind-empty h =
+      select-flat (inRows rows) (allowed R net) _ (λ s. []) 0 0 (R .stations net - 0) (omega arith)
       (λ s a b. absurd (let z : ⊥ = omega arith in z))
-      (λ s a b. row-empty kind s h l (omega arith))
+      (λ s a b. row-empty s h (omega arith))
 
-  pub rows-list : listedIn rows 4 k ≡ listed R net
+-- the rows of the steps that a net allows list them
+module _ {Net : Type 0} (R : Rules Net) (net : Net) (rows : List ℕ) (are : AreRows R net rows) (few : R .stations net ≤ 64) where
+  abbrev k : ℕ
+  k = R .stations net
+
+  -- in a net of four kinds or fewer
+  pub rows-list : R .kinds net ≤ 4 → listedIn rows 4 k ≡ listed R net
   unfolding listedIn listed stepsOf range
-  rows-list =
+  rows-list kinds =
       select-flat (inRows rows) (allowed R net) _ _ 1 _ _ (omega arith)
-      (λ kind h l. kind-lists kind h (omega arith))
-      (λ kind h l. kind-empty kind (omega arith) (omega arith))
-      ∙ sym (ap (select (allowed R net)) (candidates-are (R .kinds) k))
+      (λ kind h l. kind-lists R net few rows kind (λ s m. are .row kind s h (omega arith) m))
+      (λ kind h l. kind-empty R net few rows kind (λ s m. are .row kind s (omega arith) (omega arith) m) (omega arith))
+      ∙ sym (ap (select (allowed R net)) (candidates-are (R .kinds net) k))
+
+  -- in a net of five, where those of the fifth stand beside
+  module _ (more : List ℕ) (fifth : (s : ℕ) → s < k → rowAt more 5 s ≡ setOf k (λ r. allowed R net (step 5 s r))) where
+    four-list : listedIn rows 4 k ≡ select (allowed R net) (stepsOf k 4 k 1)
+    unfolding listedIn stepsOf range
+    four-list =
+        select-flat (inRows rows) (allowed R net) _ _ 1 4 4 (omega arith)
+        (λ kind h l. kind-lists R net few rows kind (λ s m. are .row kind s h (omega arith) m))
+        (λ kind h l. absurd (let z : ⊥ = omega arith in z))
+
+    pub rows-list-beside : R .kinds net ≡ 5 → listedIn rows 4 k ++ select (inRows more) (stepsOfKind 64 k 5 0) ≡ listed R net
+    unfolding listed
+    rows-list-beside e =
+        ap₂ _++_ four-list (kind-lists R net few more 5 fifth)
+        ∙ sym (select-append (allowed R net) (stepsOf k 4 k 1) (stepsOfKind k k 5 0))
+        ∙ ap (select (allowed R net)) (sym (five-kinds k k) ∙ sym (candidates-are 5 k))
+        ∙ ap (λ (n : ℕ). select (allowed R net) (candidates n k)) (sym e)
 
 -- The row of the reports of station s, which is empty but for the root: `ready` is the guard of the root's own report.
-module _ {Net : Type 0} (R : Rules Net) (net : Net) (low : 1 ≤ R .reports) (high : R .reports ≤ R .kinds) (s : ℕ) (below : s < R .stations net)
+module _ {Net : Type 0} (R : Rules Net) (net : Net) (low : 1 ≤ R .reports) (high : R .reports ≤ R .kinds net) (s : ℕ) (below : s < R .stations net)
     (few : R .stations net ≤ 64) (ready : Bool) (guarded : R .guard net (step (R .reports) s s) ≡ ready) where
   report-has : (r : ℕ) → member r (bitIf (eqb s (R .root net) && ready) s) ≡ allowed R net (step (R .reports) s r)
   unfolding allowed inRange
   report-has r =
       let root = R .root net in
       bit-has (eqb s root && ready) s r
-      ∙ rw (lt-ltb s 64 (omega arith), le-leb 1 (R .reports) low, le-leb (R .reports) (R .kinds) high, lt-ltb s (R .stations net) below, eqb-self (R .reports))
+      ∙ rw (lt-ltb s 64 (omega arith), le-leb 1 (R .reports) low, le-leb (R .reports) (R .kinds net) high, lt-ltb s (R .stations net) below, eqb-self (R .reports))
       (by-eq s root
       (λ (e : s ≡ root). rw (eq-eqb s root e)
       (by-eq r s

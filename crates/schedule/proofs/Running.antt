@@ -11,18 +11,20 @@ use Rattle.refusal.specs.declared.Refusal.{Refusal}
 use Rattle.refusal.specs.declared.Refusal.the-variants.{OutOfForm, NothingAllowed}
 use Rattle.refusal.specs.Refusal.{numberOf}
 use Rattle.schedule.specs.declared.Step.{Step}
+use Rattle.schedule.specs.declared.Ran.{Ran}
 use Rattle.schedule.specs.declared.rows.Drawn.{Drawn}
 use Rattle.schedule.specs.declared.rows.Drawn.the-variants as drawn
-use Rattle.schedule.specs.declared.rows.Sizes.{Sizes}
 use Rattle.schedule.specs.Rules.{Rules}
 use Rattle.schedule.specs.Listing.{listed}
-use Rattle.schedule.specs.Outcome.{StepOutcome, stepMade, stepRefused}
-use Rattle.schedule.specs.Draws.{drawOn, stopped, runOn}
-use Rattle.schedule.specs.Rows.{totalOf, pickedBySize}
-use Rattle.schedule.specs.internal.Rows.{Filled}
+use Rattle.schedule.specs.Outcome.{StepOutcome, stepMade, stepRefused, runOutcomeOf}
+use Rattle.schedule.specs.Draws.{picked, drawOn, stopped, runOn}
 use Rattle.schedule.proofs.Picks.{none-picked}
 use Rattle.schedule.proofs.Outcomes.{runFrom, run-from-start, run-used-up, run-refused, run-on, run-unformed, stopped-formed, stopped-unformed}
-use Rattle.schedule.proofs.Drawing.{total-is, of-list, drawn-nothing, drawn-accepted}
+use Rattle.schedule.proofs.Drawing.{drawn-nothing, drawn-accepted}
+
+-- what a run comes to, by what it gives
+pub outcome-of : {Net : Type 0} {r s : Ran} → r ≡ s → (net : Net) → runOutcomeOf r net ≡ runOutcomeOf s net
+outcome-of e net = ap (λ (x : Ran). runOutcomeOf x net) e
 
 module _ {Net : Type 0} (R : Rules Net) where
   pub record Running (first : Net) (draws : List ℕ) (here : Net) (made : ℕ) : Type 0 where
@@ -61,25 +63,23 @@ module _ {Net : Type 0} (R : Rules Net) where
       → runOn R net draws ≡ record { number = numberOf OutOfForm; steps = 0; rest = false; net = net }
   barred-with net draws f = run-barred net draws f ∙ stopped-unformed R net 0 f
 
-  -- by the rows of the net reached, and their sizes
-  module _ {first : Net} {draws : List ℕ} {here : Net} {made : ℕ} (r : Running first draws here made) {rows : List ℕ} {z : Sizes} (F : Filled R here rows z) where
-    pub used-up-with : length draws ≤ made → {c : ℕ} → c ≡ totalOf z
+  -- by what is listed in the net reached
+  module _ {first : Net} {draws : List ℕ} {here : Net} {made : ℕ} (r : Running first draws here made) where
+    pub used-up-with : length draws ≤ made → {c : ℕ} → c ≡ length (listed R here)
         → runOn R first draws ≡ record { number = 0; steps = made; rest = eqb c 0; net = here }
-    used-up-with h {c} e =
-        let count : c ≡ length (listed R here) = e ∙ total-is R here F in
-        rw count (ends-used-up r h ∙ stopped-formed R here made (r .formed))
+    used-up-with h e = rw e (ends-used-up r h ∙ stopped-formed R here made (r .formed))
 
-    module _ (h : made < length draws) {p : Drawn} (e : p ≡ pickedBySize rows z (R .stations here) (getD draws made 0)) where
+    module _ (h : made < length draws) {p : Drawn} (e : p ≡ picked (listed R here) (getD draws made 0)) where
       pub at-rest-with : p ≡ drawn.Nothing → runOn R first draws ≡ record { number = 0; steps = made; rest = true; net = here }
       at-rest-with q =
-          ends-refused r h NothingAllowed (drawn-nothing R here F _ e (r .formed) q)
+          ends-refused r h NothingAllowed (drawn-nothing R here _ e (r .formed) q)
           ∙ stopped-formed R here made (r .formed)
-          ∙ rw (eq-eqb (length (listed R here)) 0 (none-picked (listed R here) (getD draws made 0) (sym (of-list R here F _ e) ∙ q)))
+          ∙ rw (eq-eqb (length (listed R here)) 0 (none-picked (listed R here) (getD draws made 0) (sym e ∙ q)))
 
       -- the step drawn, and the net after it
       module _ {s : Step} (q : p ≡ drawn.Step s) {next : Net} (u : next ≡ R .apply here s) where
         accepts : drawOn R here (getD draws made 0) ≡ stepMade s next
-        accepts = drawn-accepted R here F _ e (r .formed) q ∙ ap (stepMade s) (sym u)
+        accepts = drawn-accepted R here _ e (r .formed) q ∙ ap (stepMade s) (sym u)
 
         pub goes-on-with : R .wellFormed next ≡ true → Running first draws next (made + 1)
         goes-on-with f = goes-on r h accepts f

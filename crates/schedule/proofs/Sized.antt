@@ -14,8 +14,8 @@ use Rattle.schedule.specs.declared.Step.{Step}
 use Rattle.schedule.specs.declared.rows.Sizes.{Sizes}
 use Rattle.schedule.specs.Listing.{select}
 use Rattle.schedule.specs.Draws.{picked}
-use Rattle.schedule.specs.Rows.{stepsOfKind, entry, inRows, entryOfKind, totalOf, entryBySize, pickedBySize}
-use Rattle.schedule.specs.internal.Rows.{stepsOf, listedIn, sizeOf, sizesOf}
+use Rattle.schedule.specs.Rows.{stepsOfKind, entry, inRows, entryOfKind, sizeOf, totalOf, entryBySize, pickedBySize}
+use Rattle.schedule.specs.internal.Rows.{stepsOf, listedIn, sizesOf}
 use Rattle.schedule.proofs.Parts.{stepsOf-none, stepsOf-more, select-append}
 use Rattle.schedule.proofs.Scan.{AtKind, kind-found, kind-past, kind-last}
 use Rattle.schedule.proofs.RowLists.{listed-few}
@@ -68,7 +68,7 @@ module _ (rows : List ℕ) (k : ℕ) where
     unfolding sizeOf
     past-kind b h t = kind-past (ltb-false _ _ t) h b
 
-    entry-by-size : entryBySize rows (sizesOf rows k) k n ≡ entry (listedIn rows 4 k) n
+    pub entry-by-size : entryBySize rows (sizesOf rows k) k n ≡ entry (listedIn rows 4 k) n
     unfolding entryBySize
     entry-by-size =
         let one = before-all in

@@ -36,7 +36,7 @@ isEmpty (s ∷ l) = false
 module _ {Net : Type 0} (R : Rules Net) where
   -- "the c allowed steps", in their order
   unfoldable pub listed : Net → List Step
-  listed net = select (allowed R net) (candidates (R .kinds) (R .stations net))
+  listed net = select (allowed R net) (candidates (R .kinds net) (R .stations net))
 
   -- "A net is at rest when no step is allowed in it" (Lists of calls)
   unfoldable pub quiescent : Net → Bool

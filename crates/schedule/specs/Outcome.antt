@@ -9,6 +9,7 @@ use Rattle.schedule.specs.declared.Answer.{Answer}
 use Rattle.schedule.specs.declared.Answer.the-variants.{Made, Refused}
 use Rattle.schedule.specs.declared.RunAnswer.{RunAnswer}
 use Rattle.schedule.specs.declared.RunAnswer.the-variants as run
+use Rattle.schedule.specs.declared.Ran.{Ran}
 
 -- a single step or a draw: the step made stands in `made`, and nothing where it is refused
 pub record StepOutcome (Net : Type 0) : Type 0 where
@@ -41,6 +42,6 @@ abbrev pub runNumberOf : RunAnswer → ℕ
 runNumberOf run.Stopped = 0
 runNumberOf (run.Refused r) = numberOf r
 
--- what a run's answer says
-abbrev pub runOutcomeOf : {Net : Type 0} → RunAnswer → ℕ → Bool → Net → RunOutcome Net
-runOutcomeOf answer steps rest net = record { number = runNumberOf answer; steps = steps; rest = rest; net = net }
+-- what a run gives, with the net beside it
+abbrev pub runOutcomeOf : {Net : Type 0} → Ran → Net → RunOutcome Net
+runOutcomeOf ran net = record { number = runNumberOf (ran .answer); steps = ran .steps; rest = ran .«at_rest»; net = net }

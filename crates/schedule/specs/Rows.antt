@@ -2,7 +2,7 @@
 use mathlib.Core.Bool.{Bool, cond}
 use mathlib.Core.List.{List, [], _∷_, map, flatMap}
 use Prim.Native.Nat.{ℕ, zero, suc, _+_, _-_, _*_, _%_, _^_}
-use lib.ListN.{getD}
+use lib.ListN.{length, getD}
 use lib.Dec.{eqb, ltb}
 use Rattle.bitset.specs.Set.{member, size}
 use Rattle.schedule.specs.declared.Step.{Step}
@@ -40,6 +40,10 @@ inRows rows s = member (s .receiver) (rowAt rows (s .kind) (s .sender))
 abbrev pub entryOfKind : List ℕ → ℕ → ℕ → ℕ → Entry
 entryOfKind rows k kind n = entry (select (inRows rows) (stepsOfKind 64 k kind 0)) n
 
+-- how many steps of a kind the rows list
+unfoldable pub sizeOf : List ℕ → ℕ → ℕ → ℕ
+sizeOf rows k kind = length (select (inRows rows) (stepsOfKind 64 k kind 0))
+
 -- the sizes of no rows
 abbrev pub none : Sizes
 none = record { first = 0; second = 0; third = 0; fourth = 0 }
@@ -76,3 +80,13 @@ stepFound (Beyond n) = drawn.Nothing
 -- what a draw picks, searched by sizes: of any rows and sizes, and of those of a net's allowed steps what `picked` says (proofs/Sized)
 unfoldable pub pickedBySize : List ℕ → Sizes → ℕ → ℕ → Drawn
 pickedBySize rows z k d = cond (eqb (totalOf z) 0) drawn.Nothing (stepFound (entryBySize rows z k (d % totalOf z)))
+
+-- A fifth kind has rows of its own, in a list beside them: entry n of all steps, where those of the fifth kind go after the others
+unfoldable pub entryBeside : List ℕ → Sizes → List ℕ → ℕ → ℕ → Entry
+entryBeside rows z more k n = cond (ltb n (totalOf z)) (entryBySize rows z k n) (entryOfKind more k 5 (n - totalOf z))
+
+-- what a draw picks of them
+unfoldable pub pickedBeside : List ℕ → Sizes → List ℕ → ℕ → ℕ → Drawn
+pickedBeside rows z more k d =
+    let c = (totalOf z + sizeOf more k 5) % 2 ^ 32 in
+    cond (eqb c 0) drawn.Nothing (stepFound (entryBeside rows z more k (d % c)))

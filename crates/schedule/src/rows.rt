@@ -5,7 +5,7 @@ use bitset::contains;
 use std::num::wrapping_add_u32;
 use std::num::wrapping_sub_u32;
 ghost use mathlib.Core.Path.{_≡_};
-ghost use Prim.Native.Nat.{_≤_};
+ghost use Prim.Native.Nat.{_<_, _≤_};
 ghost use lib.ListN.{getD};
 ghost use Rattle.bitset.specs.Set.{size};
 ghost use Rattle.schedule.specs.Rows;
@@ -22,7 +22,7 @@ pub enum Drawn {
     Nothing,
 }
 
-// How many steps rows list, by kind: a sender has four rows, of kinds 1 to 4.
+// How many steps rows list, by kind: a sender has four rows, of kinds 1 to 4. A net that has a fifth kind has its rows beside them.
 pub struct Sizes {
     pub first: u32,
     pub second: u32,
@@ -170,4 +170,48 @@ pub fn pick(rows: &[u64], sizes: Sizes, k: u8, d: u16) -> Drawn
         // Only where the sizes are not those of the rows.
         Entry::Beyond(_) => Drawn::Nothing,
     }
+}
+
+// More than all steps of a kind.
+const MOST: u32 = 65535;
+
+// How many steps of a kind the rows list: so many a search passes that looks for an entry after all of them.
+fn count_of_kind(rows: &[u64], kind: u8, k: u8) -> u32
+    requires { ⌜ 1 ≤ kind ⌝ }
+    ensures { λ r. ⌜ r ≡ Rows.sizeOf (now (rows .entry)) k kind ⌝ }
+{
+    let found = find_of_kind(rows, kind, k, MOST);
+    match found {
+        Entry::At(_) => 0,
+        Entry::Beyond(left) => MOST - left,
+    }
+}
+
+// The step that is entry `index`, counted from 0, of all steps, those of the fifth kind after the others. Of the others it is what a draw of `index`
+// picks, which is below their total: so `find` has one caller, and the compiler makes it part of that.
+fn find_beside(rows: &[u64], sizes: Sizes, more: &[u64], k: u8, index: u32) -> Drawn
+    requires { ⌜ index < 65536 ⌝ }
+    ensures { λ r. ⌜ r ≡ Rows.stepFound (Rows.entryBeside (now (rows .entry)) sizes (now (more .entry)) k index) ⌝ }
+{
+    let before = total(sizes);
+    if index < before {
+        return pick(rows, sizes, k, index as u16);
+    }
+    let found = find_of_kind(more, 5, k, index - before);
+    match found {
+        Entry::At(step) => Drawn::Step(step),
+        // Only where the sizes are not those of the rows.
+        Entry::Beyond(_) => Drawn::Nothing,
+    }
+}
+
+// Entry d mod c, counted from 0, of the c steps of five kinds: of the four that the sizes add up to, and of the fifth, which has rows of its own.
+pub fn pick_beside(rows: &[u64], sizes: Sizes, more: &[u64], k: u8, d: u16) -> Drawn
+    ensures { λ r. ⌜ r ≡ Rows.pickedBeside (now (rows .entry)) sizes (now (more .entry)) k d ⌝ }
+{
+    let c = wrapping_add_u32(total(sizes), count_of_kind(more, 5, k));
+    if c == 0 {
+        return Drawn::Nothing;
+    }
+    find_beside(rows, sizes, more, k, d as u32 % c)
 }

@@ -23,11 +23,11 @@ use Rattle.linemap.specs.Maps.{configOf, acceptance, place, countAt, totals}
 use Rattle.linemap.specs.RoundTrip.{Fits}
 use Rattle.linemap.specs.Writing.{isStorable}
 use Rattle.rendezvous.specs.Net.{Net, station, wellFormed}
-use Rattle.demand.specs.Kinds.{meeting, left}
+use Rattle.demand.specs.Kinds.{meeting, carrying, reports, left}
 use Rattle.demand.proofs.Demand.{demand}
 use Rattle.sheet.specs.Layout.{countColumn, totalLine, sheetOf}
 use Rattle.sheet.specs.Sheet.{SheetOutcome, deskOf, agrees, isReported, sheetLength, sheetOn}
-use Rattle.sheet.specs.Adding.{lineAt, columnsAt, shown, isHyphens, countIn, AddsUp, Columns, LaidOut, Sheets}
+use Rattle.sheet.specs.Adding.{lineAt, columnsAt, shown, isHyphens, countIn, AddsUp, Columns, LaidOut, Sound, Sheets}
 use Rattle.sheet.specs.internal.Laying.{NarrowCells, NarrowMap, FitStations}
 use Rattle.sheet.proofs.Columns.{length-column, length-count, narrow-lot, narrow-station, narrow-class, narrow-total, narrow-missing}
 use Rattle.sheet.proofs.Lines.{length-sheet}
@@ -134,18 +134,25 @@ desk-held m net same =
     let desks = agreed (configOf m) (net .config) same .2 in
     ap (λ (i : ℕ). station net i .held) (root-desk (configOf m) ∙ desks ∙ sym (root-desk (net .config)))
 
+-- so the sheet of a net whose desk reports the map's totals adds up
+sound : (m : Map) → Fits m → (count : ℕ) (net : Net)
+    → (count ≡ 1 → (j : ℕ) → j < m .classes → cell (station net (rootOf (configOf m)) .held) j ≡ totals m j)
+    → Sound m count net
+sound m fits count net number reported buffer laid j low =
+    let held = deskOf net .held in
+    let desk = desk-held m net (all-passed m net buffer laid .same) in
+    let rest = drop (length (sheetOf m held)) buffer in
+    subst (λ (b : List ℕ). AddsUp m b j) (sym (buffer-is m net buffer laid))
+    (sums-up m held (map-narrow m net buffer laid) (cells-narrow m net buffer laid) fits rest j low
+    (ap (λ (v : Aggregate). cell v j) (sym desk) ∙ number reported j low))
+
 pub sheets : Sheets
 sheets =
     record {
       columns = columns-of;
       long = long-as-said;
-      adds-up = λ m fits good calls reported buffer laid j low.
-          let net = left meeting m calls in
-          let held = deskOf net .held in
-          let number = demand .stations-that-meet m fits good calls .number-reported reported j low in
-          let desk = desk-held m net (all-passed m net buffer laid .same) in
-          let rest = drop (length (sheetOf m held)) buffer in
-          subst (λ (b : List ℕ). AddsUp m b j) (sym (buffer-is m net buffer laid))
-          (sums-up m held (map-narrow m net buffer laid) (cells-narrow m net buffer laid) fits rest j low
-          (ap (λ (v : Aggregate). cell v j) (sym desk) ∙ number));
+      adds-up = λ m fits good calls.
+          sound m fits (reports meeting m calls) (left meeting m calls) (demand .stations-that-meet m fits good calls .number-reported);
+      adds-up-carrying = λ m fits good calls.
+          sound m fits (reports carrying m calls) (left carrying m calls) (demand .carrying-back m fits good calls .number-reported);
     }

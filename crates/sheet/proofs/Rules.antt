@@ -13,7 +13,7 @@ use Rattle.finite.specs.internal.Putting.{Room}
 use Rattle.finite.proofs.Stores.{put-front}
 use Rattle.aggregate.specs.Aggregate.{used, rootOf, cell, cellBounded, bounded}
 use Rattle.aggregate.specs.declared.Config.{Config}
-use Rattle.aggregate.proofs.Laws.{class-count, valid-k, root-below}
+use Rattle.aggregate.proofs.Laws.{class-count, root-below}
 use Rattle.station.specs.Events.{finished}
 use Rattle.topology.specs.declared.Fault.{Fault}
 use Rattle.topology.specs.Answer.{isAccepted}
@@ -23,8 +23,8 @@ use Rattle.linemap.specs.declared.Map.{Map}
 use Rattle.linemap.specs.Maps.{configOf, acceptance}
 use Rattle.linemap.specs.Writing.{isStorable}
 use Rattle.linemap.proofs.Accepted.{map-classes, map-web}
-use Rattle.stations.proofs.Laws.{config-valid, held-bounded-at}
 use Rattle.rendezvous.specs.Net.{Net, wellFormed}
+use Rattle.rendezvous.proofs.Laws.{form-valid, root-most, held-bounded}
 use Rattle.sheet.specs.declared.SheetFault.the-variants.{Unfit, Lot, OutOfForm, Differs, Unreported, Buffer}
 use Rattle.sheet.specs.declared.SheetAnswer.the-variants.{Laid, Refused}
 use Rattle.sheet.specs.Layout.{sheetOf}
@@ -42,10 +42,7 @@ agreed s t h =
 
 -- the desk of a net in form is one of its places
 pub desk-low : (net : Net) → wellFormed net ≡ true → rootOf (net .config) < 64
-unfolding wellFormed
-desk-low net formed =
-    let good = config-valid (net .config) (net .stations) formed in
-    omega (arith, root-below (net .config) good, valid-k (net .config) good .1)
+desk-low = root-most
 
 -- the numbers of a sheet fit their columns: those of a map to be written, and those that the desk reported
 module _ (m : Map) (ok : isAccepted (acceptance m) ≡ true) where
@@ -58,18 +55,15 @@ module _ (m : Map) (ok : isAccepted (acceptance m) ≡ true) where
 
   module _ (net : Net) (formed : wellFormed net ≡ true) (same : agrees (configOf m) (net .config) ≡ true)
       (reported : isReported (m .classes) (deskOf net) ≡ true) where
-    held-bounded : bounded (net .config) (deskOf net .held) ≡ true
-    unfolding wellFormed
-    held-bounded =
-        held-bounded-at (net .config) (net .stations) formed (rootOf (net .config))
-        (root-below (net .config) (config-valid (net .config) (net .stations) formed))
+    desk-bounded : bounded (net .config) (deskOf net .held) ≡ true
+    desk-bounded = held-bounded net formed (rootOf (net .config)) (root-below (net .config) (form-valid net formed))
 
     class-missing : (j : ℕ) → j < m .classes → cell (deskOf net .held) j .missing ≤ 64
     unfolding bounded cellBounded
     class-missing j low =
         let x = cell (deskOf net .held) j in
         let classes = agreed (configOf m) (net .config) same .1 in
-        let all = all-below-at (λ i. cellBounded (cell (deskOf net .held) i)) (used (net .config)) j held-bounded (omega (arith, low, classes, few-classes)) in
+        let all = all-below-at (λ i. cellBounded (cell (deskOf net .held) i)) (used (net .config)) j desk-bounded (omega (arith, low, classes, few-classes)) in
         leb-true (x .missing) 64 (and-both (ltb (x .sum) (2 ^ 62)) (leb (x .missing) 64) all .1)
 
     class-total : (j : ℕ) → j < m .classes → cell (deskOf net .held) j .sum < 10 ^ 12

@@ -15,7 +15,7 @@ use Rattle.linemap.specs.declared.Map.{Map}
 use Rattle.linemap.specs.Maps.{countAt}
 use Rattle.linemap.specs.RoundTrip.{Fits}
 use Rattle.rendezvous.specs.Net.{Net}
-use Rattle.demand.specs.Kinds.{meeting, left, reports}
+use Rattle.demand.specs.Kinds.{meeting, carrying, left, reports}
 use Rattle.demand.specs.Demand.{OnEveryMap}
 use Rattle.sheet.specs.declared.SheetAnswer.the-variants.{Laid}
 use Rattle.sheet.specs.Layout.{column, countColumn, sheetOf}
@@ -71,11 +71,16 @@ pub record Columns (m : Map) (held : Aggregate) : Type 0 where
 abbrev pub LaidOut : Map → Net → List ℕ → Type 0
 LaidOut m net buffer = sheetOn m net buffer .numbers ≡ sheetNumbers (Laid (sheetLength m))
 
+-- after the report, what stands in the buffer adds up
+abbrev pub Sound : Map → ℕ → Net → Type 0
+Sound m reports net =
+    reports ≡ 1 → (buffer : List ℕ) → LaidOut m net buffer → (j : ℕ) → j < m .classes → AddsUp m (sheetOn m net buffer .buffer) j
+
 -- what holds of every sheet that is laid out
 pub record Sheets : Type 0 where
   pub columns : (m : Map) → Fits m → (net : Net) (buffer : List ℕ) → LaidOut m net buffer → Columns m (deskOf net .held)
   -- the length answered is the sheet's
   pub long : (m : Map) → Fits m → (net : Net) (buffer : List ℕ) → LaidOut m net buffer → length (sheetOf m (deskOf net .held)) ≡ sheetLength m
-  -- "For a net reached by allowed steps from the fresh net of that map", after the report: what stands in the buffer
-  pub adds-up : OnEveryMap (λ m calls. reports meeting m calls ≡ 1 → (buffer : List ℕ) → LaidOut m (left meeting m calls) buffer
-      → (j : ℕ) → j < m .classes → AddsUp m (sheetOn m (left meeting m calls) buffer .buffer) j)
+  -- "For a net reached by allowed steps from the fresh net of that map", opened without carrying back or for it
+  pub adds-up : OnEveryMap (λ m calls. Sound m (reports meeting m calls) (left meeting m calls))
+  pub adds-up-carrying : OnEveryMap (λ m calls. Sound m (reports carrying m calls) (left carrying m calls))

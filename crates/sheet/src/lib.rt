@@ -212,8 +212,8 @@ fn sheet_length(m: Map) -> usize
 }
 
 // The sheet of a map and its net, from the first byte of out: 2, 3, 19, 7 to 10 and 18 for the map, 11 for the net, then 20, 21 and 15.
-pub fn put_sheet(m: Map, net: &[u64; 705], out: &mut [u8]) -> SheetAnswer
-    ensures { λ r. ⌜ sheetOutcomeOf r (now (out .exit)) ≡ sheetOn m (netIn (now (net .entry))) (now (out .entry)) ⌝ }
+pub fn put_sheet(m: Map, net: &[u64; 705], totals: &[u64; 576], out: &mut [u8]) -> SheetAnswer
+    ensures { λ r. ⌜ sheetOutcomeOf r (now (out .exit)) ≡ sheetOn m (netIn (now (net .entry)) (now (totals .entry))) (now (out .entry)) ⌝ }
 {
     let verdict = linemap::accept(m);
     if let Verdict::Refused(fault) = verdict {
@@ -222,7 +222,7 @@ pub fn put_sheet(m: Map, net: &[u64; 705], out: &mut [u8]) -> SheetAnswer
     if !linemap::is_storable(m.lot) {
         return SheetAnswer::Refused(SheetFault::Lot);
     }
-    if !stations::are_well_formed(net) {
+    if !rendezvous::is_well_formed(net, totals) {
         return SheetAnswer::Refused(SheetFault::OutOfForm);
     }
     let t = stations::config_in(net);

@@ -12,10 +12,14 @@ use Rattle.finite.proofs.Cases.{by-eq}
 use Rattle.finite.proofs.Below.{getD-tabulate}
 use Rattle.finite.proofs.Digits.{power-more, number-of-bytes}
 use Rattle.aggregate.specs.declared.Config.{Config}
+use Rattle.aggregate.specs.declared.Aggregate.{Aggregate}
+use Rattle.aggregate.specs.Aggregate.{absent}
 use Rattle.station.specs.declared.Station.{Station}
 use Rattle.stations.specs.Stations.{stationAt}
-use Rattle.stations.specs.Words.{byteOf, configIn, firstWord, sumsIn, stationFrom, stationsIn, spareIn, WordsPinned}
+use Rattle.stations.specs.Words.{byteOf, configIn, firstWord, sumsIn, aggregateFrom, stationFrom, stationsIn, spareIn, WordsPinned}
+use Rattle.stations.specs.Kept.{keptIn}
 use Rattle.stations.proofs.Words.{station-at}
+use Rattle.stations.proofs.Kept.{kept-at}
 
 -- numbers of which byte j and what is above it are equal
 pins-up : (v w j : ℕ) → v / 2 ^ (8 * suc j) ≡ w / 2 ^ (8 * suc j) → byteOf j v ≡ byteOf j w → v / 2 ^ (8 * j) ≡ w / 2 ^ (8 * j)
@@ -35,6 +39,18 @@ pins-bytes : (v w : ℕ) → v < 2 ^ 64 → w < 2 ^ 64 → bytes 8 v ≡ bytes 8
 pins-bytes v w hv hw e =
     sym (mod-eq-of-lt hv) ∙ sym (number-of-bytes 8 v) ∙ ap (λ (l : List ℕ). number l 0 8) e ∙ number-of-bytes 8 w ∙ mod-eq-of-lt hw
 
+-- an aggregate pins its nine words
+aggregate-pinned : (l m : List ℕ) (at : ℕ) → ((p : ℕ) → (getD l p 0 < 2 ^ 64) × (getD m p 0 < 2 ^ 64)) → aggregateFrom l at ≡ aggregateFrom m at
+    → (j : ℕ) → j < 9 → getD l (at + j) 0 ≡ getD m (at + j) 0
+unfolding sumsIn
+aggregate-pinned l m at fits same j h =
+    by-eq j 8
+    (λ (e : j ≡ 8). rw e (pins-bytes _ _ (fits (at + 8) .0) (fits (at + 8) .1) (ap (λ (a : Aggregate). a .missing) same)))
+    (λ n.
+    sym (getD-tabulate (λ x. getD l (at + x) 0) 8 j 0 (omega arith))
+    ∙ ap (λ (a : Aggregate). getD (a .sums) j 0) same
+    ∙ getD-tabulate (λ x. getD m (at + x) 0) 8 j 0 (omega arith))
+
 module _ (l m : List ℕ) (config : configIn l ≡ configIn m) (stations : stationsIn l ≡ stationsIn m) (spare : spareIn l ≡ spareIn m) where
   first-pinned : getD l 0 0 ≡ getD m 0 0
   unfolding configIn spareIn
@@ -50,16 +66,9 @@ module _ (l m : List ℕ) (config : configIn l ≡ configIn m) (stations : stati
     station-same : stationFrom l (firstWord i) ≡ stationFrom m (firstWord i)
     station-same = sym (station-at l i low) ∙ ap (λ (s : List Station). stationAt s i) stations ∙ station-at m i low
 
-    sum-pinned : (j : ℕ) → j < 8 → getD l (firstWord i + j) 0 ≡ getD m (firstWord i + j) 0
-    unfolding stationFrom sumsIn
-    sum-pinned j h =
-        sym (getD-tabulate (λ n. getD l (firstWord i + n) 0) 8 j 0 h)
-        ∙ ap (λ (s : Station). getD (s .held .sums) j 0) station-same
-        ∙ getD-tabulate (λ n. getD m (firstWord i + n) 0) 8 j 0 h
-
-    missing-pinned : getD l (firstWord i + 8) 0 < 2 ^ 64 → getD m (firstWord i + 8) 0 < 2 ^ 64 → getD l (firstWord i + 8) 0 ≡ getD m (firstWord i + 8) 0
+    held-same : aggregateFrom l (firstWord i) ≡ aggregateFrom m (firstWord i)
     unfolding stationFrom
-    missing-pinned hl hm = pins-bytes _ _ hl hm (ap (λ (s : Station). s .held .missing) station-same)
+    held-same = ap (λ (s : Station). s .held) station-same
 
     set-pinned : getD l (firstWord i + 9) 0 ≡ getD m (firstWord i + 9) 0
     unfolding stationFrom
@@ -81,10 +90,9 @@ module _ (l m : List ℕ) (config : configIn l ≡ configIn m) (stations : stati
     module _ (fits : (p : ℕ) → (getD l p 0 < 2 ^ 64) × (getD m p 0 < 2 ^ 64)) where
       station-pinned : (j : ℕ) → j < 11 → getD l (firstWord i + j) 0 ≡ getD m (firstWord i + j) 0
       station-pinned j h =
-          by-eq j 8 (λ (e : j ≡ 8). rw e (missing-pinned (fits (firstWord i + 8) .0) (fits (firstWord i + 8) .1)))
-          (λ n. by-eq j 9 (λ (e : j ≡ 9). rw e set-pinned)
+          by-eq j 9 (λ (e : j ≡ 9). rw e set-pinned)
           (λ o. by-eq j 10 (λ (e : j ≡ 10). rw e last-pinned)
-          (λ q. sum-pinned j (omega arith))))
+          (λ q. aggregate-pinned l m (firstWord i) fits held-same j (omega arith)))
 
   same-words : length l ≡ 705 → length m ≡ 705 → ((p : ℕ) → (getD l p 0 < 2 ^ 64) × (getD m p 0 < 2 ^ 64)) → l ≡ m
   same-words long same fits =
@@ -102,3 +110,18 @@ module _ (l m : List ℕ) (config : configIn l ≡ configIn m) (stations : stati
 
 pub words-pinned : WordsPinned
 words-pinned = record { pinned = λ l m long same fits config stations spare. same-words l m config stations spare long same fits }
+
+-- and what is kept pins its words
+pub kept-pinned : (l m : List ℕ) → length l ≡ 576 → length m ≡ 576 → ((p : ℕ) → (getD l p 0 < 2 ^ 64) × (getD m p 0 < 2 ^ 64)) → keptIn l ≡ keptIn m → l ≡ m
+kept-pinned l m long same fits kept =
+    ext-getD 0 l m (long ∙ sym same)
+    (λ p h.
+    let i = p / 9 in
+    let j = p % 9 in
+    let parts : i * 9 + j ≡ p = div-add-mod' p 9 in
+    let rest : j < 9 = mod-lt p (lit< tt) in
+    let place : 9 * i + j ≡ p = omega (arith, parts) in
+    let low : i < 64 = omega (arith, parts, h, long) in
+    let there : aggregateFrom l (9 * i) ≡ aggregateFrom m (9 * i) =
+    sym (kept-at l i low) ∙ ap (λ (k : List Aggregate). getD k i absent) kept ∙ kept-at m i low in
+    ap (λ (x : ℕ). getD l x 0) (sym place) ∙ aggregate-pinned l m (9 * i) fits there j rest ∙ ap (λ (x : ℕ). getD m x 0) place)

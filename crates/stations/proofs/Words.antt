@@ -16,12 +16,12 @@ use Rattle.finite.proofs.Below.{length-tabulate, getD-tabulate, tabulate-ext}
 use Rattle.finite.proofs.Digits.{power-more}
 use Rattle.aggregate.specs.declared.Config.{Config}
 use Rattle.aggregate.specs.declared.Aggregate.{Aggregate}
-use Rattle.aggregate.specs.Aggregate.{cell, missingWord, ofWords}
+use Rattle.aggregate.specs.Aggregate.{cell, missingWord}
 use Rattle.station.specs.declared.Station.{Station}
 use Rattle.stations.specs.Stations.{noStation, stationAt}
-use Rattle.stations.specs.Words.{byteOf, configIn, firstWord, sumsIn, stationFrom, stationsIn, spareIn, stationRead}
-use Rattle.stations.specs.Words.{configWord, withConfig, fieldsWord, withSums, withStation}
-use Rattle.stations.specs.internal.Fitting.{Fits}
+use Rattle.stations.specs.Words.{byteOf, configIn, firstWord, sumsIn, aggregateFrom, stationFrom, stationsIn, spareIn, stationRead}
+use Rattle.stations.specs.Words.{configWord, withConfig, fieldsWord, withSums, withAggregate, withStation}
+use Rattle.stations.specs.internal.Fitting.{FitsHeld, Fits}
 
 -- ---- a byte put below a number
 module _ (q r : ℕ) (byte : r < 2 ^ 8) where
@@ -53,11 +53,11 @@ module _ (words : List ℕ) where
 
 -- ---- what is read of words that are alike
 module _ (l m : List ℕ) where
-  sums-alike : (at : ℕ) → ((j : ℕ) → j < 8 → getD l (at + j) 0 ≡ getD m (at + j) 0) → sumsIn l at ≡ sumsIn m at
+  pub sums-alike : (at : ℕ) → ((j : ℕ) → j < 8 → getD l (at + j) 0 ≡ getD m (at + j) 0) → sumsIn l at ≡ sumsIn m at
   unfolding sumsIn
   sums-alike at h = tabulate-ext 8 _ _ h
 
-  station-alike : (at : ℕ) → ((j : ℕ) → j < 11 → getD l (at + j) 0 ≡ getD m (at + j) 0) → stationFrom l at ≡ stationFrom m at
+  pub station-alike : (at : ℕ) → ((j : ℕ) → j < 11 → getD l (at + j) 0 ≡ getD m (at + j) 0) → stationFrom l at ≡ stationFrom m at
   unfolding stationFrom
   station-alike at h =
       rw (sums-alike at (λ j u. h j (omega arith)), h 8 (omega arith), h 9 (omega arith), h 10 (omega arith))
@@ -107,7 +107,7 @@ module _ (words : List ℕ) (long : length words ≡ 705) (t : Config) (byte : (
       (tabulate-ext 64 _ _ (λ i l. ap (λ (x : ℕ). x / 2 ^ 24) (later-word i 10)))
 
 -- ---- a station written
-length-sums : (words : List ℕ) (at : ℕ) (v : Aggregate) (n : ℕ) → length (withSums words at v n) ≡ length words
+pub length-sums : (words : List ℕ) (at : ℕ) (v : Aggregate) (n : ℕ) → length (withSums words at v n) ≡ length words
 unfolding withSums
 length-sums words at v zero = refl
 length-sums words at v (suc n) = length-set (withSums words at v n) (at + n) (cell v n .sum) ∙ length-sums words at v n
@@ -131,67 +131,75 @@ sums-same words at v j (suc n) l room =
     getD-set-other (withSums words at v n) (at + n) (at + j) (cell v n .sum) 0 (λ e. q (omega arith))
     ∙ sums-same words at v j n (omega arith) (omega arith))
 
+-- an aggregate written
+module _ (words : List ℕ) (at : ℕ) (v : Aggregate) where
+  abbrev sums : List ℕ
+  sums = withSums words at v 8
+
+  pub length-aggregate : length (withAggregate words at v) ≡ length words
+  length-aggregate = length-set sums (at + 8) (missingWord v) ∙ length-sums words at v 8
+
+  -- a word that is none of its nine
+  pub aggregate-other : (p : ℕ) → ((j : ℕ) → j < 9 → p ≡ at + j → ⊥) → getD (withAggregate words at v) p 0 ≡ getD words p 0
+  aggregate-other p out =
+      getD-set-other sums (at + 8) p (missingWord v) 0 (out 8 (omega arith)) ∙ sums-other words at v p 8 (λ j u. out j (omega arith))
+
+  module _ (room : at + 9 ≤ length words) where
+    sum-word : (j : ℕ) → j < 8 → getD (withAggregate words at v) (at + j) 0 ≡ getD (v .sums) j 0
+    sum-word j l = getD-set-other sums (at + 8) (at + j) (missingWord v) 0 (λ e. omega arith) ∙ sums-same words at v j 8 l (omega arith)
+
+    missing-word : getD (withAggregate words at v) (at + 8) 0 ≡ missingWord v
+    missing-word = getD-set-same sums (at + 8) (missingWord v) 0 (omega (arith, length-sums words at v 8))
+
+    -- words whose nine are those that were written
+    pub aggregate-again : FitsHeld v → (after : List ℕ) → ((j : ℕ) → j < 9 → getD after (at + j) 0 ≡ getD (withAggregate words at v) (at + j) 0)
+        → aggregateFrom after at ≡ v
+    unfolding sumsIn
+    aggregate-again fits after same =
+        let f : ℕ → ℕ = λ j. getD after (at + j) 0 in
+        ap₂ (λ (a m : List ℕ). record { sums = a; missing = m })
+        (ext-getD 0 (tabulate 8 f) (v .sums) (length-tabulate f 8 ∙ sym (fits .sums-long))
+        (λ j l. let low : j < 8 = omega (arith, length-tabulate f 8) in getD-tabulate f 8 j 0 low ∙ same j (omega arith) ∙ sum-word j low))
+        (ap (bytes 8) (same 8 (omega arith) ∙ missing-word) ∙ fits .missing-again)
+
 module _ (words : List ℕ) (at : ℕ) (s : Station) where
   abbrev fields : ℕ
   fields = fieldsWord (getD words (at + 10) 0) s
 
   -- the words one after the other
-  abbrev sums : List ℕ
-  sums = withSums words at (s .held) 8
-
-  abbrev missing : List ℕ
-  missing = set sums (at + 8) (missingWord (s .held))
+  abbrev held : List ℕ
+  held = withAggregate words at (s .held)
 
   abbrev unstarted : List ℕ
-  unstarted = set missing (at + 9) (s .unstarted)
+  unstarted = set held (at + 9) (s .unstarted)
 
   -- a word that is none of the station's
   station-other : (p : ℕ) → ((j : ℕ) → j < 11 → p ≡ at + j → ⊥) → getD (withStation words at s) p 0 ≡ getD words p 0
   unfolding withStation
   station-other p out =
       getD-set-other unstarted (at + 10) p fields 0 (out 10 (omega arith))
-      ∙ getD-set-other missing (at + 9) p (s .unstarted) 0 (out 9 (omega arith))
-      ∙ getD-set-other sums (at + 8) p (missingWord (s .held)) 0 (out 8 (omega arith))
-      ∙ sums-other words at (s .held) p 8 (λ j u. out j (omega arith))
+      ∙ getD-set-other held (at + 9) p (s .unstarted) 0 (out 9 (omega arith))
+      ∙ aggregate-other words at (s .held) p (λ j u. out j (omega arith))
 
   module _ (room : at + 11 ≤ length words) (fits : Fits s) where
-    length-missing : length missing ≡ length words
-    length-missing = length-set sums (at + 8) (missingWord (s .held)) ∙ length-sums words at (s .held) 8
-
     length-unstarted : length unstarted ≡ length words
-    length-unstarted = length-set missing (at + 9) (s .unstarted) ∙ length-missing
+    length-unstarted = length-set held (at + 9) (s .unstarted) ∙ length-aggregate words at (s .held)
 
-    sum-word : (j : ℕ) → j < 8 → getD (withStation words at s) (at + j) 0 ≡ getD (s .held .sums) j 0
+    held-word : (j : ℕ) → j < 9 → getD (withStation words at s) (at + j) 0 ≡ getD held (at + j) 0
     unfolding withStation
-    sum-word j l =
+    held-word j l =
         getD-set-other unstarted (at + 10) (at + j) fields 0 (λ e. omega arith)
-        ∙ getD-set-other missing (at + 9) (at + j) (s .unstarted) 0 (λ e. omega arith)
-        ∙ getD-set-other sums (at + 8) (at + j) (missingWord (s .held)) 0 (λ e. omega arith)
-        ∙ sums-same words at (s .held) j 8 l (omega arith)
-
-    missing-word : getD (withStation words at s) (at + 8) 0 ≡ missingWord (s .held)
-    unfolding withStation
-    missing-word =
-        getD-set-other unstarted (at + 10) (at + 8) fields 0 (λ e. omega arith)
-        ∙ getD-set-other missing (at + 9) (at + 8) (s .unstarted) 0 (λ e. omega arith)
-        ∙ getD-set-same sums (at + 8) (missingWord (s .held)) 0 (omega (arith, length-sums words at (s .held) 8))
+        ∙ getD-set-other held (at + 9) (at + j) (s .unstarted) 0 (λ e. omega arith)
 
     set-word : getD (withStation words at s) (at + 9) 0 ≡ s .unstarted
     unfolding withStation
     set-word =
         getD-set-other unstarted (at + 10) (at + 9) fields 0 (λ e. omega arith)
-        ∙ getD-set-same missing (at + 9) (s .unstarted) 0 (omega (arith, length-missing))
+        ∙ getD-set-same held (at + 9) (s .unstarted) 0 (omega (arith, length-aggregate words at (s .held)))
 
     last-word : getD (withStation words at s) (at + 10) 0 ≡ fields
     unfolding withStation
     last-word = getD-set-same unstarted (at + 10) fields 0 (omega (arith, length-unstarted))
-
-    sums-again : sumsIn (withStation words at s) at ≡ s .held .sums
-    unfolding sumsIn
-    sums-again =
-        let f : ℕ → ℕ = λ j. getD (withStation words at s) (at + j) 0 in
-        ext-getD 0 (tabulate 8 f) (s .held .sums) (length-tabulate f 8 ∙ sym (fits .sums-long))
-        (λ j l. let low : j < 8 = omega (arith, length-tabulate f 8) in getD-tabulate f 8 j 0 low ∙ sum-word j low)
 
     -- the fields of the last word, and what stands beside them
     abbrev beside : ℕ
@@ -220,8 +228,8 @@ module _ (words : List ℕ) (at : ℕ) (s : Station) where
     station-again : stationFrom (withStation words at s) at ≡ s
     unfolding stationFrom
     station-again =
-        let held : ofWords (sumsIn (withStation words at s) at) (getD (withStation words at s) (at + 8) 0) ≡ s .held =
-        ap₂ (λ (a m : List ℕ). record { sums = a; missing = m }) sums-again (ap (bytes 8) missing-word ∙ fits .missing-again) in
+        let held : aggregateFrom (withStation words at s) at ≡ s .held =
+        aggregate-again words at (s .held) (omega arith) (fits .held-fits) (withStation words at s) held-word in
         station-of held set-word (ap (byteOf 0) last-word ∙ byte-low (upper * 2 ^ 8 + s .waits) (s .parent) (fits .parent-byte))
         (ap (byteOf 1) last-word ∙ waits-again) (ap (byteOf 2) last-word ∙ state-again)
       where

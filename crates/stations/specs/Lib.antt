@@ -1,3 +1,4 @@
 pub mod Stations
 pub mod Words
+pub mod Kept
 pub mod internal

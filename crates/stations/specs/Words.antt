@@ -31,12 +31,15 @@ firstWord i = 1 + 11 * i
 unfoldable pub sumsIn : List ℕ → ℕ → List ℕ
 sumsIn words at = tabulate 8 (λ j. getD words (at + j) 0)
 
+-- eight sums and a word of missing numbers, from the words that start there
+abbrev pub aggregateFrom : List ℕ → ℕ → Aggregate
+aggregateFrom words at = ofWords (sumsIn words at) (getD words (at + 8) 0)
+
 -- the station whose words start there
 unfoldable pub stationFrom : List ℕ → ℕ → Station
 stationFrom words at =
     let w = getD words (at + 10) 0 in
-    let held = ofWords (sumsIn words at) (getD words (at + 8) 0) in
-    record { held = held; unstarted = getD words (at + 9) 0; parent = byteOf 0 w; waits = byteOf 1 w; state = byteOf 2 w }
+    record { held = aggregateFrom words at; unstarted = getD words (at + 9) 0; parent = byteOf 0 w; waits = byteOf 1 w; state = byteOf 2 w }
 
 -- all 64 places
 unfoldable pub stationsIn : List ℕ → List Station
@@ -67,11 +70,14 @@ unfoldable pub withSums : List ℕ → ℕ → Aggregate → ℕ → List ℕ
 withSums words at v zero = words
 withSums words at v (suc n) = set (withSums words at v n) (at + n) (cell v n .sum)
 
+-- the words with v in the nine that start there
+abbrev pub withAggregate : List ℕ → ℕ → Aggregate → List ℕ
+withAggregate words at v = set (withSums words at v 8) (at + 8) (missingWord v)
+
 -- the words with s in those that start there
 unfoldable pub withStation : List ℕ → ℕ → Station → List ℕ
 withStation words at s =
-    let held = set (withSums words at (s .held) 8) (at + 8) (missingWord (s .held)) in
-    set (set held (at + 9) (s .unstarted)) (at + 10) (fieldsWord (getD words (at + 10) 0) s)
+    set (set (withAggregate words at (s .held)) (at + 9) (s .unstarted)) (at + 10) (fieldsWord (getD words (at + 10) 0) s)
 
 -- the words with s for station i; past the places, as they were
 abbrev pub stationWritten : List ℕ → ℕ → Station → List ℕ

@@ -6,11 +6,13 @@ use schedule::Step;
 use station::Station;
 ghost use mathlib.Core.Path.{_≡_};
 ghost use Prim.Native.Nat.{_+_, _<_, _≤_};
-ghost use lib.ListN.{length, set};
+ghost use lib.ListN.{length, set, replicate};
+ghost use Rattle.aggregate.specs.Aggregate.{nothing};
 ghost use Rattle.schedule.specs.Rules.{stepInRange};
 ghost use Rattle.stations.specs.Stations as Rules;
 ghost use Rattle.stations.specs.Words;
-ghost use Rattle.stations.specs.internal.Fitting.{Fits};
+ghost use Rattle.stations.specs.Kept;
+ghost use Rattle.stations.specs.internal.Fitting.{FitsHeld, Fits};
 
 // What stands in a place past k.
 pub fn blank() -> Station
@@ -83,7 +85,7 @@ fn wide(b: u8) -> u64
 }
 
 // How many words there are: a reference to an array does not tell.
-fn count_words(words: &[u64]) -> usize
+pub fn count_words(words: &[u64]) -> usize
     ensures { λ r. ⌜ r ≡ length (now (words .entry)) ⌝ }
 {
     words.len()
@@ -124,8 +126,8 @@ pub fn put_config(words: &mut [u64; 705], t: Config)
     words[0] = w;
 }
 
-fn load_sums(words: &[u64; 705], at: usize) -> [u64; 8]
-    requires { ⌜ at + 8 ≤ 705 ⌝ }
+fn load_sums(words: &[u64], at: usize) -> [u64; 8]
+    requires { ⌜ at + 8 ≤ length (now words) ⌝ }
     ensures { λ r. ⌜ r ≡ Words.sumsIn (now (words .entry)) at ⌝ }
 {
     let mut sums = [0u64; 8];
@@ -137,12 +139,19 @@ fn load_sums(words: &[u64; 705], at: usize) -> [u64; 8]
     sums
 }
 
+fn load_aggregate(words: &[u64], at: usize) -> Aggregate
+    requires { ⌜ at + 9 ≤ length (now words) ⌝ }
+    ensures { λ r. ⌜ r ≡ Words.aggregateFrom (now (words .entry)) at ⌝ }
+{
+    let sums = load_sums(words, at);
+    aggregate::of_words(sums, words[at + 8])
+}
+
 fn load_from(words: &[u64; 705], at: usize) -> Station
     requires { ⌜ at + 11 ≤ 705 ⌝ }
     ensures { λ r. ⌜ r ≡ Words.stationFrom (now (words .entry)) at ⌝ }
 {
-    let sums = load_sums(words, at);
-    let held = aggregate::of_words(sums, words[at + 8]);
+    let held = load_aggregate(words, at);
     let unstarted = words[at + 9];
     let w = words[at + 10];
     Station {
@@ -165,8 +174,8 @@ pub fn load(words: &[u64; 705], i: u8) -> Station
     }
 }
 
-fn store_sums(words: &mut [u64; 705], at: usize, v: Aggregate)
-    requires { ⌜ at + 8 ≤ 705 ⌝ }
+fn store_sums(words: &mut [u64], at: usize, v: Aggregate)
+    requires { ⌜ at + 8 ≤ length (now words) ⌝ }
     ensures words { λ _. ⌜ now (words .exit) ≡ Words.withSums (now (words .entry)) at v 8 ⌝ }
     ensures long { λ _. ⌜ length (v .sums) ≡ 8 ⌝ }
 {
@@ -175,6 +184,16 @@ fn store_sums(words: &mut [u64; 705], at: usize, v: Aggregate)
         words[at + j] = v.sums[j];
         j += 1;
     }
+}
+
+fn store_aggregate(words: &mut [u64], at: usize, v: Aggregate)
+    requires { ⌜ at + 9 ≤ length (now words) ⌝ }
+    ensures words { λ _. ⌜ now (words .exit) ≡ Words.withAggregate (now (words .entry)) at v ⌝ }
+    ensures fits { λ _. ⌜ FitsHeld v ⌝ }
+{
+    let missing = aggregate::missing_word(v);
+    store_sums(words, at, v);
+    words[at + 8] = missing;
 }
 
 // A station's last word with other fields.
@@ -196,9 +215,7 @@ fn store_from(words: &mut [u64; 705], at: usize, s: Station)
     let held = s.held;
     let unstarted = s.unstarted;
     let w = fields_word(words[at + 10], s);
-    let missing = aggregate::missing_word(held);
-    store_sums(words, at, held);
-    words[at + 8] = missing;
+    store_aggregate(words, at, held);
     words[at + 9] = unstarted;
     words[at + 10] = w;
 }
@@ -213,6 +230,40 @@ pub fn store(words: &mut [u64; 705], i: u8, s: Station)
     if i < 64 {
         let long = count_words(words);
         store_from(words, 1 + 11 * (i as usize), s);
+    }
+}
+
+// What station i keeps beside its own; other numbers than 0 to 63 have no place.
+pub fn load_kept(words: &[u64; 576], i: u8) -> Aggregate
+    ensures { λ r. ⌜ r ≡ Kept.keptRead (now (words .entry)) i ⌝ }
+{
+    if i < 64 {
+        load_aggregate(words, 9 * (i as usize))
+    } else {
+        aggregate::empty()
+    }
+}
+
+// Station i keeps v; other numbers than 0 to 63 have no place.
+pub fn store_kept(words: &mut [u64; 576], i: u8, v: Aggregate)
+    ensures words { λ _. ⌜ now (words .exit) ≡ Kept.keptWritten (now (words .entry)) i v ⌝ }
+    ensures kept { λ _. ⌜ Kept.keptIn (now (words .exit)) ≡ set (Kept.keptIn (now (words .entry))) i v ⌝ }
+{
+    if i < 64 {
+        let long = count_words(words);
+        store_aggregate(words, 9 * (i as usize), v);
+    }
+}
+
+// Nobody keeps anything.
+pub fn clear_kept(words: &mut [u64; 576])
+    ensures { λ _. ⌜ Kept.keptIn (now (words .exit)) ≡ replicate 64 nothing ⌝ }
+{
+    let none = aggregate::empty();
+    let mut i: u8 = 0;
+    while i < 64 {
+        store_kept(words, i, none);
+        i += 1;
     }
 }
 

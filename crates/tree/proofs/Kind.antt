@@ -1,11 +1,14 @@
--- The tree behind a total for a kind of net, once for both: its nets refine the wave and show who is awake, parents, what is held, and which
--- steps are answers. Assumes nothing.
-use mathlib.Core.Path.{_≡_, sym, ap, ap₂, _∙_, subst}
+-- The tree behind a total, once for all kinds of net. A kind of net that refines the wave shows who is awake, parents, what is held, and which steps
+-- are answers (`Shown`). Above it stands a kind of net whose counted steps are steps of the net below, and come first (`Above`): what they lead to
+-- below has the same parents, and holds the same, so the tree is that of the net below. Where all steps are counted, a kind of net stands above itself
+-- (`itself`). Assumes nothing.
+use mathlib.Core.Path.{_≡_, refl, sym, ap, ap₂, _∙_, subst, fun-ext}
 use mathlib.Core.Bool.{Bool, true, false, not}
-use mathlib.Core.List.{List, [], _∷_, _++_, map, append-nil}
-use Prim.Native.Nat.{ℕ, _<_}
+use mathlib.Core.List.{List, [], _∷_, _++_, map, append-nil, append-assoc}
+use Prim.Native.Nat.{ℕ, suc, _<_}
 use native.Mathlib.Omega.{arith}
 use lib.Dec.{eqb}
+use lib.ListN.{length, getD, length-append, List·getD-append}
 use borrow.Author.Tests.{eqb-false, ne-eqb}
 use Rattle.finite.specs.internal.Monoid.{addition}
 use Rattle.finite.proofs.Cases.{clash, by-bool}
@@ -29,18 +32,20 @@ use Rattle.linemap.specs.declared.Map.{Map}
 use Rattle.linemap.specs.Maps.{configOf, acceptance}
 use Rattle.schedule.specs.declared.Step.{Step}
 use Rattle.schedule.specs.Rules.{Rules}
-use Rattle.schedule.specs.Listing.{step}
+use Rattle.schedule.specs.Listing.{select, step}
 use Rattle.schedule.specs.Calls.{Call, single}
 use Rattle.schedule.specs.internal.Labels.{labelOf}
 use Rattle.schedule.proofs.Listing.{Allowed}
+use Rattle.schedule.proofs.Parts.{select-all, select-append, select-passes}
 use Rattle.schedule.proofs.Made.{Listed, Makes, calls-make, singles-make}
 use Rattle.order.specs.internal.Maps.{readings}
 use Rattle.order.proofs.Kind.{Ties, nets, runs-allowed}
 use Rattle.order.proofs.Local.{stateOf}
 use Rattle.order.proofs.Stations.{line}
 use Rattle.order.proofs.Maps.{web-of, chosen-joined, class-held}
-use Rattle.demand.specs.Kinds.{Kind, isReport, desk, deskHeld, made, left, reports}
+use Rattle.demand.specs.Kinds.{Kind, howMany, isReport, desk, deskHeld, made, left, steps, reports}
 use Rattle.demand.proofs.Counted.{reports-counted}
+use Rattle.demand.proofs.Demand.{Whole}
 use Rattle.tree.specs.Tree.{Answers, after, parentOf, leadsThrough, treeTotals, Behind}
 
 -- what a wave's step is, its sender and its receiver
@@ -90,113 +95,220 @@ records K A t =
       brought = λ net s. cells t (A .brought net s);
     }
 
+-- the steps that calls make, in any kind of net
+module _ (K : Kind) (m : Map) (calls : List Call) where
+  makes : Makes (K .rules) (K .fresh m) (made K m calls) (left K m calls)
+  makes = calls-make (K .rules) (K .fresh m) calls
+
+  pub made-allowed : Runs (Allowed (K .rules)) (K .rules .apply) (K .fresh m) (made K m calls)
+  made-allowed = runs-allowed (K .rules) (K .fresh m) (made K m calls) (makes .runs)
+
+  -- the net that they lead to
+  pub left-is : left K m calls ≡ reached (K .rules .apply) (K .fresh m) (made K m calls)
+  left-is = makes .ends
+
+  -- the first of them, one by one
+  singles : (front ahead : List Step) → made K m calls ≡ front ++ ahead
+      → (made K m (map single front) ≡ front) × (after K m front ≡ reached (K .rules .apply) (K .fresh m) front)
+  singles front ahead q =
+      singles-make (K .rules) (K .fresh m) front
+      (runs-then (Listed (K .rules)) (K .rules .apply) (K .fresh m) front ahead
+      (subst (Runs (Listed (K .rules)) (K .rules .apply) (K .fresh m)) q (makes .runs)) .0)
+
+  pub made-again : (front ahead : List Step) → made K m calls ≡ front ++ ahead → made K m (map single front) ≡ front
+  made-again front ahead q = singles front ahead q .0
+
+  pub after-is : (front ahead : List Step) → made K m calls ≡ front ++ ahead → after K m front ≡ reached (K .rules .apply) (K .fresh m) front
+  after-is front ahead q = singles front ahead q .1
+
+  pub after-all : after K m (made K m calls) ≡ left K m calls
+  after-all = after-is (made K m calls) [] (sym (append-nil (made K m calls))) ∙ sym left-is
+
+-- the front of what was selected is what is selected of it
+select-front : (p : Step → Bool) (l front back : List Step) → select p l ≡ front ++ back → select p front ≡ front
+unfolding select
+select-front p l front back e =
+    kept front (λ n h.
+    ap p (sym (List·getD-append front back (step 0 0 0) n h) ∙ ap (λ (x : List Step). getD x n (step 0 0 0)) (sym e))
+    ∙ select-passes p l n (step 0 0 0) (omega (arith, h, ap length e, length-append front back)))
+  where
+    kept : (l : List Step) → ((n : ℕ) → n < length l → p (getD l n (step 0 0 0)) ≡ true) → select p l ≡ l
+    kept [] h = refl
+    kept (s ∷ l) h = rw (h 0 (omega arith)) (ap (λ (x : List Step). s ∷ x) (kept l (λ n k. h (suc n) (omega arith))))
+
+-- one that is selected goes before the others
+select-first : (p : Step → Bool) (s : Step) (l : List Step) → p s ≡ true → select p (s ∷ l) ≡ s ∷ select p l
+unfolding select
+select-first p s l e = rw e
+
 -- the stations of an accepted map
 abbrev pub graph : (m : Map) → acceptance m ≡ accepted → Graph
 graph m e = line (configOf m) (m .neighbours) (web-of m e)
 
+-- ---- the kind of net below
 module _ (K : Kind) (A : Answers K) (m : Map) (e : acceptance m ≡ accepted) where
   abbrev g : Graph
   g = graph m e
 
-  abbrev D : Records (K .Net) Step (ℕ → Cell)
-  D = records K A (configOf m)
-
   abbrev total : K .Net → ℕ → Cell
   total net = cells (configOf m) (deskHeld K m net)
 
-  -- what a kind of net brings on a map: it is tied to the wave and shows its records, and no answer is a report
+  -- what it brings on a map: it is tied to the wave and shows its records, and no answer is a report
   pub record Shown : Type 1 where
     pub ties : Ties (K .rules) g joining (readings m) (K .fresh m) total
-    pub shows : Shows g joining (readings m) (nets (K .rules) g joining (readings m) (K .fresh m) total ties) D
+    pub shows : Shows g joining (readings m) (nets (K .rules) g joining (readings m) (K .fresh m) total ties) (records K A (configOf m))
     pub no-report : (net : K .Net) (s : Step) → A .isAnswer net s ≡ true → isReport K s ≡ false
 
-  module _ (B : Shown) (calls : List Call) where
-    abbrev pub refined : Refinement g joining (readings m)
-    refined = nets (K .rules) g joining (readings m) (K .fresh m) total (B .ties)
+  abbrev pub refined : Shown → Refinement g joining (readings m)
+  refined B = nets (K .rules) g joining (readings m) (K .fresh m) total (B .ties)
 
-    -- the net that the steps made lead to
-    abbrev end : K .Net
-    end = reached (K .rules .apply) (K .fresh m) (made K m calls)
+-- ---- and the one above: what its steps lead to below, of the first kind
+pub record Above (K₀ : Kind) (A₀ : Answers K₀) (K : Kind) (A : Answers K) (m : Map) : Type 0 where
+  pub plain : K .Net → K₀ .Net
+  -- the steps that are counted are steps of the net below, and come first
+  pub walked : (made : List Step) → Runs (Allowed (K .rules)) (K .rules .apply) (K .fresh m) made
+      → Runs (Allowed (K₀ .rules)) (K₀ .rules .apply) (K₀ .fresh m) (select (K .counts) made)
+      × (plain (reached (K .rules .apply) (K .fresh m) made) ≡ reached (K₀ .rules .apply) (K₀ .fresh m) (select (K .counts) made))
+  pub first : (calls : List Call) → (after : List Step) × (made K m calls ≡ steps K m calls ++ after)
+  pub same-reports : K .rules .reports ≡ K₀ .rules .reports
+  -- what is below has the records of what is above
+  pub awake-is : (net : K .Net) (i : ℕ) → eqb (K₀ .station (plain net) i .state) asleep ≡ eqb (K .station net i .state) asleep
+  pub parent-is : (net : K .Net) (i : ℕ) → K .station net i .parent ≡ K₀ .station (plain net) i .parent
+  pub held-is : (net : K .Net) (i : ℕ) → K .station net i .held ≡ K₀ .station (plain net) i .held
+  -- and the same answers, which are counted
+  pub answers-counted : (net : K .Net) (s : Step) → A .isAnswer net s ≡ true → K .counts s ≡ true
+  pub answer-is : (net : K .Net) (s : Step) → A .isAnswer net s ≡ A₀ .isAnswer (plain net) s
+  pub brought-is : (net : K .Net) (s : Step) → A .brought net s ≡ A₀ .brought (plain net) s
 
-    makes : Makes (K .rules) (K .fresh m) (made K m calls) (left K m calls)
-    makes = calls-make (K .rules) (K .fresh m) calls
+pub itself : (K : Kind) (A : Answers K) (m : Map) → Whole K → Above K A K A m
+itself K A m whole =
+    record {
+      plain = λ net. net;
+      walked = λ made runs.
+          let at : List Step → Type 0 = λ l.
+          Runs (Allowed (K .rules)) (K .rules .apply) (K .fresh m) l
+          × (reached (K .rules .apply) (K .fresh m) made ≡ reached (K .rules .apply) (K .fresh m) l) in
+          subst at (sym (select-all (K .counts) whole made)) (runs, refl);
+      first = λ calls. ([], sym (append-nil (steps K m calls) ∙ select-all (K .counts) whole (made K m calls)));
+      same-reports = refl;
+      awake-is = λ net i. refl;
+      parent-is = λ net i. refl;
+      held-is = λ net i. refl;
+      answers-counted = λ net s a. whole s;
+      answer-is = λ net s. refl;
+      brought-is = λ net s. refl;
+    }
 
-    pub made-allowed : Runs (Allowed (K .rules)) (K .rules .apply) (K .fresh m) (made K m calls)
-    made-allowed = runs-allowed (K .rules) g joining (readings m) (K .fresh m) total (B .ties) (K .fresh m) (made K m calls) (makes .runs)
+-- a total of the wave's, class by class
+pub in-classes : (K : Kind) (m : Map) (e : acceptance m ≡ accepted) (calls : List Call) (a : Aggregate) (i : ℕ)
+    → cells (configOf m) a ≡ totalThrough joining (m .k) (parentOf K m calls) (readings m) i
+    → (c : ℕ) → c < m .classes → cell a c ≡ treeTotals K m calls i c
+in-classes K m e calls a i q c l =
+    sym (class-held m e a c l) ∙ ap (λ (f : ℕ → Cell). f c) q ∙ chosen-joined m e (leadsThrough K m calls i) c l
 
-    pub left-is : left K m calls ≡ end
-    left-is = makes .ends
+module _ (K₀ : Kind) (A₀ : Answers K₀) (K : Kind) (A : Answers K) (m : Map) (e : acceptance m ≡ accepted) (B : Shown K₀ A₀ m e)
+    (P : Above K₀ A₀ K A m) (calls : List Call) where
+  abbrev t : Config
+  t = configOf m
 
-    -- the first of the steps made, one by one
-    singles : (front ahead : List Step) → made K m calls ≡ front ++ ahead
-        → (made K m (map single front) ≡ front) × (after K m front ≡ reached (K .rules .apply) (K .fresh m) front)
-    singles front ahead q =
-        singles-make (K .rules) (K .fresh m) front
-        (runs-then (Listed (K .rules)) (K .rules .apply) (K .fresh m) front ahead
-        (subst (Runs (Listed (K .rules)) (K .rules .apply) (K .fresh m)) q (makes .runs)) .0)
+  abbrev D : Records (K₀ .Net) Step (ℕ → Cell)
+  D = records K₀ A₀ t
 
-    pub made-again : (front ahead : List Step) → made K m calls ≡ front ++ ahead → made K m (map single front) ≡ front
-    made-again front ahead q = singles front ahead q .0
+  abbrev R : Refinement (g K₀ A₀ m e) joining (readings m)
+  R = refined K₀ A₀ m e B
 
-    pub after-is : (front ahead : List Step) → made K m calls ≡ front ++ ahead → after K m front ≡ reached (K .rules .apply) (K .fresh m) front
-    after-is front ahead q = singles front ahead q .1
+  abbrev counted : List Step → List Step
+  counted l = select (K .counts) l
 
-    pub after-all : after K m (made K m calls) ≡ left K m calls
-    after-all = after-is (made K m calls) [] (sym (append-nil (made K m calls))) ∙ sym left-is
+  abbrev below : List Step → K₀ .Net
+  below l = reached (K₀ .rules .apply) (K₀ .fresh m) l
 
-    pub parents-stay : (front back : List Step) → made K m calls ≡ front ++ back → (i : ℕ) → i < m .k
-        → (K .station (after K m front) i .state ≡ asleep → ⊥)
-        → parentOf K m calls i ≡ K .station (after K m front) i .parent
-    parents-stay front back q i l up =
-        let there = after-is front back q in
-        let awake = subst (λ (net : K .Net). not (eqb (K .station net i .state) asleep) ≡ true) there (rw (ne-eqb _ _ up)) in
-        ap (λ (net : K .Net). K .station net i .parent) left-is
-        ∙ refinement-parents g joining (readings m) refined D (B .shows) (made K m calls) made-allowed front back q i l awake
-        ∙ ap (λ (net : K .Net). K .station net i .parent) (sym there)
+  abbrev end : K₀ .Net
+  end = below (steps K m calls)
 
-    -- a total of the wave's, class by class
-    pub in-classes : (a : Aggregate) (i : ℕ) → cells (configOf m) a ≡ totalThrough joining (m .k) (D .parent end) (readings m) i
-        → (c : ℕ) → c < m .classes → cell a c ≡ treeTotals K m calls i c
-    in-classes a i q c l =
-        let same = ap (λ (net : K .Net). totalThrough joining (m .k) (D .parent net) (readings m) i) (sym left-is) in
-        sym (class-held m e a c l) ∙ ap (λ (f : ℕ → Cell). f c) (q ∙ same) ∙ chosen-joined m e (leadsThrough K m calls i) c l
+  runs : Runs (Allowed (K₀ .rules)) (K₀ .rules .apply) (K₀ .fresh m) (steps K m calls)
+  runs = P .walked (made K m calls) (made-allowed K m calls) .0
 
-    module _ (one : reports K m calls ≡ 1) where
-      pub reported : times report (map (labelOf (K .rules)) (made K m calls)) ≡ 1
-      reported = reports-counted K (made K m calls) ∙ one
+  last-plain : P .plain (left K m calls) ≡ end
+  last-plain = ap (P .plain) (left-is K m calls) ∙ P .walked (made K m calls) (made-allowed K m calls) .1
 
-      pub behind : Behind K m calls A
-      behind =
-          let wave-tree = refinement-tree g joining (readings m) refined D (B .shows) (made K m calls) made-allowed reported in
-          let up = refinement-up g joining (readings m) refined D (B .shows) (made K m calls) made-allowed reported in
-          let of : K .Net → Type 0 = λ net. TreeBehind (m .k) (desk m) (g .adj) joining (readings m) (D .parent net) (D .held end) in
-          let tree : of (left K m calls) = subst of (sym left-is) wave-tree in
-          record {
-            neighbour = tree .neighbour;
-            reaches = tree .reaches;
-            stays = tree .stays;
-            through = λ i j l. tree .through j i l;
-            sent = λ front back s q answers.
-                let there = after-is front (s ∷ back) q in
-                let label : labelOf (K .rules) s ≡ message (s .sender) (s .receiver) = rw (B .no-report (after K m front) s answers) in
-                let is = subst (λ (net : K .Net). A .isAnswer net s ≡ true) there answers in
-                let w = up .total-up front back s (s .sender) (s .receiver) q label is in (
-                  ap (λ (net : K .Net). K .station net (s .sender) .parent) left-is ∙ w .0,
-                  in-classes (A .brought (after K m front) s) (s .sender) (ap (λ (net : K .Net). D .brought net s) there ∙ w .1),
-                );
-            each-sent = λ i l n.
-                let w = up .each-up i l n in (
-                  w .0,
-                  w .1,
-                  w .2,
-                  w .3,
-                  subst (λ (net : K .Net). A .isAnswer net (w .1) ≡ true) (sym (after-is (w .0) (w .1 ∷ w .2) (w .3))) (w .5),
-                  label-is (K .rules) (w .1) i _ (w .4) .1,
-                );
-            held = λ i c l.
-                in-classes (K .station (left K m calls) i .held) i (ap (λ (net : K .Net). D .held net i) left-is ∙ wave-tree .sums i l) c;
-            whole = λ c.
-                let all : (j : ℕ) → j < m .k → leadsThrough K m calls (desk m) j ≡ true =
-                λ j l. let w = tree .reaches j l in tree .through j (desk m) l .1 (w .0, w .2) in
-                pair (sum-ext addition (m .k) _ _ (λ j l. rw (all j l))) (sum-ext addition (m .k) _ _ (λ j l. rw (all j l)));
-          }
+  -- a net on the way
+  front-plain : (front back : List Step) → made K m calls ≡ front ++ back → P .plain (after K m front) ≡ below (counted front)
+  front-plain front back q =
+      ap (P .plain) (after-is K m calls front back q)
+      ∙ P .walked front
+      (runs-then (Allowed (K .rules)) (K .rules .apply) (K .fresh m) front back
+      (subst (Runs (Allowed (K .rules)) (K .rules .apply) (K .fresh m)) q (made-allowed K m calls)) .0) .1
+
+  parents : parentOf K m calls ≡ D .parent end
+  parents = fun-ext (λ i. P .parent-is (left K m calls) i ∙ ap (λ (net : K₀ .Net). K₀ .station net i .parent) last-plain)
+
+  pub parents-stay : (front back : List Step) → made K m calls ≡ front ++ back → (i : ℕ) → i < m .k
+      → (K .station (after K m front) i .state ≡ asleep → ⊥)
+      → parentOf K m calls i ≡ K .station (after K m front) i .parent
+  parents-stay front back q i l up =
+      let net = after K m front in
+      let there = front-plain front back q in
+      let awake : D .awake (P .plain net) i ≡ true = ap not (P .awake-is net i ∙ ne-eqb (K .station net i .state) asleep up) in
+      ap (λ (f : ℕ → ℕ). f i) parents
+      ∙ refinement-parents (g K₀ A₀ m e) joining (readings m) R D (B .shows) (steps K m calls) runs (counted front) (counted back)
+      (ap counted q ∙ select-append (K .counts) front back) i l (subst (λ (n : K₀ .Net). D .awake n i ≡ true) there awake)
+      ∙ sym (P .parent-is net i ∙ ap (λ (n : K₀ .Net). K₀ .station n i .parent) there)
+
+  module _ (one : reports K m calls ≡ 1) where
+    reported : times report (map (labelOf (K₀ .rules)) (steps K m calls)) ≡ 1
+    reported =
+        reports-counted K₀ (steps K m calls)
+        ∙ ap (λ (n : ℕ). howMany (λ s. eqb (s .kind) n) (steps K m calls)) (sym (P .same-reports))
+        ∙ one
+
+    -- a total of the wave's, by the parents of the net above
+    by-parents : (i : ℕ) → totalThrough joining (m .k) (D .parent end) (readings m) i ≡ totalThrough joining (m .k) (parentOf K m calls) (readings m) i
+    by-parents i = ap (λ (p : ℕ → ℕ). totalThrough joining (m .k) p (readings m) i) (sym parents)
+
+    pub behind : Behind K m calls A
+    behind =
+        let wave-tree = refinement-tree (g K₀ A₀ m e) joining (readings m) R D (B .shows) (steps K m calls) runs reported in
+        let up = refinement-up (g K₀ A₀ m e) joining (readings m) R D (B .shows) (steps K m calls) runs reported in
+        let of : (ℕ → ℕ) → Type 0 = λ p. TreeBehind (m .k) (desk m) (g K₀ A₀ m e .adj) joining (readings m) p (D .held end) in
+        let tree : of (parentOf K m calls) = subst of (sym parents) wave-tree in
+        record {
+          neighbour = tree .neighbour;
+          reaches = tree .reaches;
+          stays = tree .stays;
+          through = λ i j l. tree .through j i l;
+          sent = λ front back s q answers.
+              let net = after K m front in
+              let there = front-plain front (s ∷ back) q in
+              let is = subst (λ (n : K₀ .Net). A₀ .isAnswer n s ≡ true) there (sym (P .answer-is net s) ∙ answers) in
+              let label : labelOf (K₀ .rules) s ≡ message (s .sender) (s .receiver) = rw (B .no-report (below (counted front)) s is) in
+              let split =
+              ap counted q ∙ select-append (K .counts) front (s ∷ back)
+              ∙ ap (λ (l : List Step). counted front ++ l) (select-first (K .counts) s back (P .answers-counted net s answers)) in
+              let w = up .total-up (counted front) (counted back) s (s .sender) (s .receiver) split label is in (
+                ap (λ (f : ℕ → ℕ). f (s .sender)) parents ∙ w .0,
+                in-classes K m e calls (A .brought net s) (s .sender)
+                    (ap (cells t) (P .brought-is net s) ∙ ap (λ (n : K₀ .Net). D .brought n s) there ∙ w .1 ∙ by-parents (s .sender)),
+              );
+          each-sent = λ i l n.
+              let w = up .each-up i l n in
+              let rest = P .first calls in
+              let split : made K m calls ≡ w .0 ++ (w .1 ∷ (w .2 ++ rest .0)) =
+              rest .1 ∙ ap (λ (l : List Step). l ++ rest .0) (w .3) ∙ append-assoc (w .0) (w .1 ∷ w .2) (rest .0) in
+              let there = front-plain (w .0) (w .1 ∷ (w .2 ++ rest .0)) split
+              ∙ ap below (select-front (K .counts) (made K m calls) (w .0) (w .1 ∷ w .2) (w .3)) in (
+                w .0,
+                w .1,
+                w .2 ++ rest .0,
+                split,
+                P .answer-is (after K m (w .0)) (w .1) ∙ ap (λ (net : K₀ .Net). A₀ .isAnswer net (w .1)) there ∙ w .5,
+                label-is (K₀ .rules) (w .1) i _ (w .4) .1,
+              );
+          held = λ i c l.
+              in-classes K m e calls (K .station (left K m calls) i .held) i
+              (ap (cells t) (P .held-is (left K m calls) i) ∙ ap (λ (net : K₀ .Net). D .held net i) last-plain ∙ wave-tree .sums i l ∙ by-parents i) c;
+          whole = λ c.
+              let all : (j : ℕ) → j < m .k → leadsThrough K m calls (desk m) j ≡ true =
+              λ j l. let w = tree .reaches j l in tree .through j (desk m) l .1 (w .0, w .2) in
+              pair (sum-ext addition (m .k) _ _ (λ j l. rw (all j l))) (sum-ext addition (m .k) _ _ (λ j l. rw (all j l)));
+        }

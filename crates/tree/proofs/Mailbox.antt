@@ -13,6 +13,7 @@ use Rattle.aggregate.specs.internal.Joining.{cells, joining}
 use Rattle.wave.specs.internal.Graph.{Graph}
 use Rattle.wave.specs.internal.Wave.{State, message, answers, CanSend, Weak}
 use Rattle.wave.proofs.Invariant.{Inv}
+use Rattle.wave.specs.internal.Tree.{totalThrough}
 use Rattle.wave.proofs.TreeTheorem.{moment, answer-up}
 use Rattle.topology.specs.Answer.{accepted}
 use Rattle.linemap.specs.declared.Map.{Map}
@@ -38,9 +39,10 @@ use Rattle.order.proofs.MailingRefines.{Mails, hasPosted, boxOf, full-send, sen
 use Rattle.order.proofs.MailboxSteps.{toBox, view, Good}
 use Rattle.order.proofs.Mailbox.{ties}
 use Rattle.demand.specs.Kinds.{mailing, deskHeld, made}
+use Rattle.demand.proofs.Demand.{reports-made}
 use Rattle.tree.specs.Tree.{holdsAnswer, mailingAnswers, Posted}
 use Rattle.tree.proofs.Kind.{label-is, message-step, awake-shown, graph, records, Shown}
-use Rattle.tree.proofs.Kind.{refined, made-allowed, left-is, after-is, in-classes, reported}
+use Rattle.tree.proofs.Kind.{refined, made-allowed, left-is, after-is, in-classes}
 
 -- a mailbox that holds an answer shows it, and no other does
 shown-answer : (b : Mailbox) (v : ℕ → Cell) → holdsAnswer b ≡ true → toBox b v ≡ answer v
@@ -128,16 +130,17 @@ unfolding mailing-shown
 posted m fits e calls one front back q i j hi hj box =
     let B = mailing-shown m fits e in
     let D = records mailing mailingAnswers (configOf m) in
-    let K = refined mailing mailingAnswers m e B calls in
-    let runs = made-allowed mailing mailingAnswers m e B calls in
+    let K = refined mailing mailingAnswers m e B in
+    let runs = made-allowed mailing m calls in
     let steps = made mailing m calls in
-    let there = after-is mailing mailingAnswers m e B calls front back q in
+    let there = after-is mailing m calls front back q in
     let t = moment (graph m e) joining (readings m) K D (B .shows) steps runs front back q in
     let holds = subst (λ (net : Net). holdsAnswer (boxAt (net .boxes) i j) ≡ true) there (ap holdsAnswer box) in
     let w = waiting m fits e _ (t .before) (t .stood .0) (t .stood .1) i j hi hj holds in
-    let last = reported mailing mailingAnswers m e B calls one in
+    let last = reports-made mailing (λ s. refl) m calls ∙ one in
     let u = answer-up (graph m e) joining (readings m) K D (B .shows) steps runs last front back t i j (w .0) (w .1) in (
-      ap (λ (net : Net). mailing .station net i .parent) (left-is mailing mailingAnswers m e B calls) ∙ u .0,
-      in-classes mailing mailingAnswers m e B calls _ i
-          (ap (λ (net : Net). cells (configOf m) (broughtAt (net .config) (net .boxes) i j)) there ∙ w .2 ∙ u .1),
+      ap (λ (net : Net). mailing .station net i .parent) (left-is mailing m calls) ∙ u .0,
+      in-classes mailing m e calls _ i
+          (ap (λ (net : Net). cells (configOf m) (broughtAt (net .config) (net .boxes) i j)) there ∙ w .2 ∙ u .1
+          ∙ ap (λ (net : Net). totalThrough joining (m .k) (D .parent net) (readings m) i) (sym (left-is mailing m calls))),
     )

@@ -1,7 +1,7 @@
 -- Stations that meet show the tree behind a total: of the steps that are allowed the answers are those of kind 3. Assumes nothing.
 use mathlib.Core.Path.{_≡_, refl, sym, ap, _∙_, subst}
-use mathlib.Core.Bool.{false}
-use Prim.Native.Nat.{ℕ}
+use mathlib.Core.Bool.{false, cond}
+use Prim.Native.Nat.{ℕ, _≤_}
 use native.Mathlib.Omega.{arith}
 use lib.Dec.{eqb}
 use Rattle.finite.proofs.Cases.{by-eq, and-both}
@@ -21,7 +21,8 @@ use Rattle.schedule.specs.Rules.{inRange, allowed}
 use Rattle.schedule.specs.internal.Labels.{labelOf}
 use Rattle.schedule.proofs.Listing.{Allowed, range-bounds}
 use Rattle.rendezvous.specs.Net.{Net, station}
-use Rattle.rendezvous.specs.Figure.{wake, pass, answer}
+use Rattle.rendezvous.specs.Figure.{wake, pass, answer, report}
+use Rattle.rendezvous.specs.Telling.{tell}
 use Rattle.rendezvous.specs.Rules.{rules}
 use Rattle.rendezvous.specs.Opening.{freshOn}
 use Rattle.order.specs.internal.Maps.{readings}
@@ -39,7 +40,7 @@ module _ (m : Map) (fits : Fits m) (e : acceptance m ≡ accepted) where
   abbrev g : Graph
   g = graph m e
 
-  abbrev tied : Ties rules g joining (readings m) (freshOn m) (λ net. cells (configOf m) (deskHeld meeting m net))
+  abbrev tied : Ties rules g joining (readings m) (freshOn false m) (λ net. cells (configOf m) (deskHeld meeting m net))
   tied = ties (configOf m) (m .counts) (m .neighbours) (web-of m e) (classes-of m e) (fits .counts)
 
   module _ (n : Net) (S : State (ℕ → Cell)) (G : Good (configOf m) (m .neighbours) (web-of m e) n) (R : Meets g (view (configOf m) n) S)
@@ -66,7 +67,8 @@ module _ (m : Map) (fits : Fits m) (e : acceptance m ≡ accepted) where
         (λ n₁. by-eq (s .kind) pass
         (λ q. start-is pass 1 q refl (may pass q))
         (λ n₂.
-        let q : s .kind ≡ answer = omega (arith, b .kind-low, b .kind-high, n₁, n₂, label-is rules s i j l .0) in
+        let high : s .kind ≤ 4 = subst (λ (x : ℕ). s .kind ≤ cond (eqb x 1) tell report) (G .flag) (b .kind-high) in
+        let q : s .kind ≡ answer = omega (arith, b .kind-low, high, n₁, n₂, label-is rules s i j l .0) in
         ap (λ (x : ℕ). eqb x answer) q ∙ sym (answer-sound g joining (readings m) S I (view (configOf m) n) R i j (may answer q) .1)))
 
   pub meeting-shown : Shown meeting meetingAnswers m e

@@ -1,30 +1,35 @@
--- The tree behind a total, in both kinds of net. Assumes nothing.
-use Rattle.linemap.specs.declared.Map.{Map}
-use Rattle.linemap.specs.RoundTrip.{Fits}
-use Rattle.linemap.specs.Maps.{acceptance}
+-- The tree behind a total, in all kinds of net. Assumes nothing.
+use mathlib.Core.Path.{_≡_, refl}
 use Rattle.topology.specs.Answer.{accepted}
-use mathlib.Core.Path.{_≡_}
-use Rattle.demand.specs.Kinds.{Kind, meeting, mailing}
-use Rattle.tree.specs.Tree.{Answers, meetingAnswers, mailingAnswers, OfKind, Tree}
-use Rattle.tree.proofs.Kind.{Shown, made-again, after-all, behind, parents-stay}
+use Rattle.linemap.specs.declared.Map.{Map}
+use Rattle.linemap.specs.Maps.{acceptance}
+use Rattle.linemap.specs.RoundTrip.{Fits}
+use Rattle.demand.specs.Kinds.{Kind, meeting, carrying, mailing}
+use Rattle.tree.specs.Tree.{Answers, meetingAnswers, carryingAnswers, mailingAnswers, OfKind, Tree}
+use Rattle.tree.proofs.Kind.{Shown, Above, itself, made-again, after-all, behind, parents-stay}
 use Rattle.tree.proofs.Rendezvous.{meeting-shown}
+use Rattle.tree.proofs.Carrying.{carrying-above}
 use Rattle.tree.proofs.Mailbox.{mailing-shown, posted}
 use Rattle.tree.proofs.Example.{any-tree}
 
-of-kind : (K : Kind) (A : Answers K) → ((m : Map) → Fits m → (e : acceptance m ≡ accepted) → Shown K A m e) → OfKind K A
-of-kind K A shown =
+of-kind : (K₀ : Kind) (A₀ : Answers K₀) (K : Kind) (A : Answers K) → ((m : Map) → Fits m → (e : acceptance m ≡ accepted) → Shown K₀ A₀ m e)
+    → ((m : Map) → Fits m → acceptance m ≡ accepted → Above K₀ A₀ K A m) → OfKind K A
+of-kind K₀ A₀ K A shown above =
     record {
-      made-again = λ m fits e calls. made-again K A m e (shown m fits e) calls;
-      after-all = λ m fits e calls. after-all K A m e (shown m fits e) calls;
-      behind = λ m fits e calls one. behind K A m e (shown m fits e) calls one;
-      parents-stay = λ m fits e calls. parents-stay K A m e (shown m fits e) calls;
+      made-again = λ m fits e calls. made-again K m calls;
+      after-all = λ m fits e calls. after-all K m calls;
+      behind = λ m fits e calls one. behind K₀ A₀ K A m e (shown m fits e) (above m fits e) calls one;
+      parents-stay = λ m fits e calls. parents-stay K₀ A₀ K A m e (shown m fits e) (above m fits e) calls;
     }
 
 pub tree : Tree
 tree =
     record {
-      stations-that-meet = of-kind meeting meetingAnswers meeting-shown;
-      stations-with-mail = of-kind mailing mailingAnswers mailing-shown;
+      stations-that-meet =
+          of-kind meeting meetingAnswers meeting meetingAnswers meeting-shown (λ m fits e. itself meeting meetingAnswers m (λ s. refl));
+      carrying-back = of-kind meeting meetingAnswers carrying carryingAnswers meeting-shown carrying-above;
+      stations-with-mail =
+          of-kind mailing mailingAnswers mailing mailingAnswers mailing-shown (λ m fits e. itself mailing mailingAnswers m (λ s. refl));
       posted = posted;
       any-tree = any-tree;
     }

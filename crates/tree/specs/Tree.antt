@@ -25,7 +25,7 @@ use Rattle.mail.specs.declared.Mailbox.{Mailbox}
 use Rattle.mail.specs.declared.Mailbox.the-variants.{Empty, Full}
 use Rattle.mail.specs.Mail.{boxAt, broughtAt}
 use Rattle.mailbox.specs.Rules.{delivery}
-use Rattle.demand.specs.Kinds.{Kind, meeting, mailing, desk, made, left, reports}
+use Rattle.demand.specs.Kinds.{Kind, meeting, carrying, mailing, desk, made, left, reports}
 use Rattle.demand.specs.Demand.{OnEveryMap}
 
 -- what is sent up in a kind of net: whether a step made in a net carries an answer, and what that brings
@@ -37,6 +37,10 @@ pub record Answers (K : Kind) : Type 0 where
 abbrev pub meetingAnswers : Answers meeting
 meetingAnswers =
     record { isAnswer = λ net s. eqb (s .kind) answer; brought = λ net s. meeting-net.station net (s .sender) .held }
+
+-- the same where totals are carried back (document 02, request 8)
+abbrev pub carryingAnswers : Answers carrying
+carryingAnswers = record { isAnswer = meetingAnswers .isAnswer; brought = meetingAnswers .brought }
 
 -- "holding a start or an answer" (Stations with mail)
 abbrev pub holdsAnswer : Mailbox → Bool
@@ -132,6 +136,7 @@ pub record AnyTree (K : Kind) : Type 0 where
 -- all of it
 pub record Tree : Type 0 where
   pub stations-that-meet : OfKind meeting meetingAnswers
+  pub carrying-back : OfKind carrying carryingAnswers
   pub stations-with-mail : OfKind mailing mailingAnswers
   pub posted : Posted
   pub any-tree : AnyTree meeting × AnyTree mailing

@@ -1,5 +1,5 @@
 //! Document 01's "Edges" and its example of the program's output, with the lines and the largest total of document 02,
-//! request 1, and the edges of requests 1, 2, 4, 5 and 7, for any subject.
+//! request 1, and the edges of requests 1, 2, 4, 5, 7 and 8, for any subject.
 
 use crate::calls::{MapCalls, NetCalls, SheetCalls, StationCalls};
 use crate::gen::map::all_linked;
@@ -8,7 +8,7 @@ use crate::gen::station::events;
 use crate::model::aggregate::{Aggregate, Cell};
 use crate::model::demand::Record;
 use crate::model::map::{stored, Map};
-use crate::model::meet::{Meet, ANSWER, PASS, REPORT, WAKE};
+use crate::model::meet::{Back, Meet, ANSWER, PASS, REPORT, TELL, TOLD, WAKE};
 use crate::model::net::{Net, Step};
 use crate::model::refusal::{number, Cause, Refusal};
 use crate::model::station::{Event, Process, Station, ACTIVE, FINISHED};
@@ -653,6 +653,35 @@ fn check_order<const C: usize>(subject: &impl NetCalls<Meet>, map: &Map, draws: 
         assert_eq!(subject.draw(&mut net, draw), Ok(Step { kind, sender, receiver }));
         assert_eq!(net.stations()[usize::from(sender)].held, held(after));
     }
+}
+
+/// Totals carried back: after either order of the triangle two tells, in the order of the parents, and every station
+/// knows what was reported; no tell before, and none to the desk; without carrying back kind 5 is out of range.
+pub fn tells(subject: &(impl NetCalls<Back> + NetCalls<Meet>)) {
+    let total = held([(23, 0)]);
+    for (draws, second) in [([0; 9], [0, 2]), ([0, 1, 0, 0, 0, 0, 0, 0, 0], [1, 2])] {
+        let (before, after) = draws.split_at(7);
+        let mut net: Back = fresh(subject, &triangle());
+        for &draw in before {
+            let early = Step { kind: TELL, sender: 0, receiver: 1 };
+            assert_eq!(subject.step(&mut net, early), Err(Cause::NotAllowed.alone()));
+            subject.draw(&mut net, draw).expect("a step of the wave is allowed");
+        }
+        let to_the_desk = Step { kind: TELL, sender: 1, receiver: 0 };
+        assert_eq!(subject.step(&mut net, to_the_desk), Err(Cause::NotAllowed.alone()));
+        assert_eq!(net.0.kept, [Aggregate::default(); PLACES]);
+        for (&draw, [sender, receiver]) in after.iter().zip([[0, 1], second]) {
+            let own = net.0.stations[usize::from(receiver)];
+            assert_eq!(subject.draw(&mut net, draw), Ok(Step { kind: TELL, sender, receiver }));
+            assert_eq!(net.0.kept[usize::from(receiver)], total);
+            assert_eq!(net.0.stations[usize::from(receiver)], Station { state: TOLD, ..own });
+        }
+        assert_eq!(subject.draw(&mut net, 0), Err(Cause::NothingAllowed.alone()));
+        net.check_rest(&triangle());
+    }
+    let mut net: Meet = fresh(subject, &triangle());
+    let tell = Step { kind: TELL, sender: 0, receiver: 1 };
+    assert_eq!(subject.step(&mut net, tell), Err(Cause::OutOfRange.alone()));
 }
 
 /// The triangle with the desk at station 1.

@@ -175,3 +175,19 @@ fn example_sheet() {
     let sheet = [&["before the report: refused 21"], &TWO_CLASSES_SHEET[..], &[""]].concat();
     assert_eq!(run("examples/c/sheet.c", &[]), sheet.join("\n"));
 }
+
+/// Document 02, request 8: after the report of document 01's second order two tells, along the parents, and 23 on both heads,
+/// which sent up 18 and 11.
+#[cfg(feature = "meet")]
+#[test]
+fn example_displays() {
+    let told = "\
+report 23
+tell 0 1
+tell 1 2
+head 1 shows 23, and sent up 18
+head 2 shows 23, and sent up 11
+then: refused 14
+";
+    assert_eq!(run("examples/c/displays.c", &[]), told);
+}

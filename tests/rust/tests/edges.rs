@@ -23,6 +23,11 @@ fn stations_that_meet() {
 }
 
 #[test]
+fn totals_carried_back() {
+    edges::tells(&Model);
+}
+
+#[test]
 fn sheets() {
     edges::sheets(&Model);
 }

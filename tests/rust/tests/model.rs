@@ -8,7 +8,7 @@ use conformance::gen::aggregate;
 use conformance::gen::net::any;
 use conformance::model::aggregate::{Aggregate, Cell};
 use conformance::model::mail::{Mail, Message, Outbox};
-use conformance::model::meet::{Meet, ANSWER, PASS, REPORT, WAKE};
+use conformance::model::meet::{Back, Meet, ANSWER, PASS, REPORT, WAKE};
 use conformance::model::net::{Net, Step};
 use conformance::model::set;
 use conformance::model::station::{ACTIVE, ASLEEP, FINISHED};
@@ -30,8 +30,16 @@ fn demand_3_holds_for_stations_with_mail() {
 }
 
 #[test]
+fn demand_3_holds_with_totals_carried_back() {
+    net::lists::<Back>(&Model, 200);
+    net::full_run::<Back>(&Model);
+    net::every_class_count::<Back>(&Model);
+}
+
+#[test]
 fn both_kinds_report_the_same() {
     net::kinds_agree::<Meet, Mail>(&Model, &Model, 200);
+    net::kinds_agree::<Meet, Back>(&Model, &Model, 200);
 }
 
 #[test]
@@ -50,6 +58,8 @@ fn cases_meet_every_refusal() {
     net::freshness::<Meet>(&Model, 500);
     net::freshness::<Mail>(&Model, 500);
     net::hostile::<Meet>(&Model, 2_000);
+    net::freshness::<Back>(&Model, 500);
+    net::hostile::<Back>(&Model, 2_000);
     net::hostile::<Mail>(&Model, 2_000);
     sheet::sheets(&Model, 3_000);
 }

@@ -3,12 +3,18 @@
 use conformance::compare::tree;
 use conformance::ffi::Library;
 use conformance::model::mail::Mail;
-use conformance::model::meet::Meet;
+use conformance::model::meet::{Back, Meet};
 
 #[test]
 fn stations_that_meet() {
     tree::waves::<Meet>(&Library, 1_000);
     tree::largest::<Meet>(&Library);
+}
+
+#[test]
+fn carrying_back() {
+    tree::waves::<Back>(&Library, 1_000);
+    tree::largest::<Back>(&Library);
 }
 
 #[test]

@@ -2,16 +2,19 @@
 use mathlib.Core.Path.{_≡_, refl, sym, _∙_, ap, subst}
 use mathlib.Core.Bool.{true}
 use Prim.Native.Nat.{ℕ, _≤_, _<_}
+use native.Mathlib.Omega.{arith}
 use lib.ListN.{length-replicate}
 use borrow.Author.Tests.{not-true, not-false}
 use Rattle.aggregate.specs.declared.Config.{Config}
 use Rattle.aggregate.specs.Aggregate.{rootOf}
 use Rattle.schedule.specs.Rules.{allowed}
+use Rattle.schedule.specs.Listing.{listed}
+use Rattle.schedule.specs.Draws.{picked}
 use Rattle.schedule.specs.Rows.{pickedBySize}
 use Rattle.schedule.specs.Outcome.{stepMade}
 use Rattle.schedule.specs.internal.Rows.{Filled}
 use Rattle.schedule.proofs.Outcomes.{draw-unformed}
-use Rattle.schedule.proofs.Drawing.{drawn-nothing, drawn-allowed, drawn-accepted}
+use Rattle.schedule.proofs.Drawing.{of-list, drawn-nothing, drawn-allowed, drawn-accepted}
 use Rattle.mailbox.specs.declared.listing.Takers.{Takers}
 use Rattle.mailbox.specs.Net.{Net, netOf, wellFormed}
 use Rattle.mailbox.specs.Rules.{rules}
@@ -54,15 +57,16 @@ fills c =
     config (c .before .before .before .before .before .root-reports .ensures) (c .before .before .fill .ensures)))
 
 picks : (c : tie.After-pick)
-    → c .pick .result ≡ pickedBySize (c .before .before .fill .last .0) (c .before .before .fill .result) (netIn c .config .k) (c .before .before .before .before .before .before .before .before .before .before .before .before .before .before .before .args .d)
+    → c .pick .result ≡ picked (listed rules (netIn c)) (c .before .before .before .before .before .before .before .before .before .before .before .before .before .before .before .args .d)
 picks c =
-    c .pick .ensures
+    of-list rules (netIn c) (fills c) (omega arith) _
+    (c .pick .ensures
     ∙ ap (λ (t : Config). pickedBySize (c .before .before .fill .last .0) (c .before .before .fill .result) (t .k) (c .before .before .before .before .before .before .before .before .before .before .before .before .before .before .before .args .d))
-    (c .before .before .before .before .before .before .before .before .before .config-in .ensures)
+    (c .before .before .before .before .before .before .before .before .before .config-in .ensures))
 
 -- the step that was picked is allowed
 may : (c : tie.After-known-told) → let pick = c .before .before .before in allowed rules (netIn pick) (c .before .drawn .given .0 .0) ≡ true
-may c = let pick = c .before .before .before in drawn-allowed rules (netIn pick) (fills pick) _ (picks pick) (c .before .drawn .given .1)
+may c = let pick = c .before .before .before in drawn-allowed rules (netIn pick) _ (picks pick) (c .before .drawn .given .1)
 
 is-well-formed-requires : tie.Need-is-well-formed-requires
 is-well-formed-requires c κs = search needs
@@ -105,7 +109,7 @@ enum-told c = search needs
 returns-2 : tie.Need-returns-2
 returns-2 c =
     let pick = c .before .before in
-    (sym (drawn-nothing rules (netIn pick) (fills pick) _ (picks pick) (formed (formedOf pick)) (c .enum-told .given .1)), refl)
+    (sym (drawn-nothing rules (netIn pick) _ (picks pick) (formed (formedOf pick)) (c .enum-told .given .1)), refl)
 
 make-requires : tie.Need-make-requires
 make-requires c κs =
@@ -119,7 +123,7 @@ returns-3 c =
     let pick = told .before .before .before in
     let s = told .before .drawn .given .0 .0 in (
       ap (stepMade s) (made-is (netIn pick) s (c .make .ensures .0))
-          ∙ sym (drawn-accepted rules (netIn pick) (fills pick) _ (picks pick) (formed (formedOf pick)) (told .before .drawn .given .1)),
+          ∙ sym (drawn-accepted rules (netIn pick) _ (picks pick) (formed (formedOf pick)) (told .before .drawn .given .1)),
       c .make .ensures .1,
     )
 

@@ -8,7 +8,7 @@ use lib.ListN.{length, length-replicate}
 use borrow.Author.Tests.{not-true, not-false}
 use Rattle.aggregate.specs.declared.Config.{Config}
 use Rattle.aggregate.specs.Aggregate.{rootOf}
-use Rattle.schedule.proofs.Running.{run-starts, barred-with}
+use Rattle.schedule.proofs.Running.{outcome-of, run-starts, barred-with}
 use Rattle.stations.specs.Words.{spareIn}
 use Rattle.stations.proofs.Words.{length-stations}
 use Rattle.mailbox.specs.Net.{Net, netOf, wellFormed}
@@ -52,7 +52,7 @@ returns : tie.Need-returns Inv-loop μ-loop
 returns c =
     let start = c .before .before .before .before .before .before in
     let net = netAt start in
-    (c .stop-outside .ensures net ∙ sym (barred-with rules net (start .args .draws .now) (sym (c .before .before .is-well-formed .ensures) ∙ not-true _ (c .before .if1 .taken))), refl)
+    (outcome-of (c .stop-outside .ensures) net ∙ sym (barred-with rules net (start .args .draws .now) (sym (c .before .before .is-well-formed .ensures) ∙ not-true _ (c .before .if1 .taken))), refl)
 
 count-words-requires : tie.Need-count-words-requires Inv-loop μ-loop
 count-words-requires c κs = search needs
@@ -117,7 +117,7 @@ returns-2 c =
     let pick = c .before .before .before in
     let test = pick .before .before .before .before .before in
     let l = test .before .loop in (
-      c .stop .ensures (netOf (l .line) (l .boxes)) ∙ sym (ends-at-rest (l .inv .0) (pick .before .before .before .config-in2 .ensures) (test .loop-test .taken) (pick .pick .ensures) (c .before .enum-told .given .1)),
+      outcome-of (c .stop .ensures) (netOf (l .line) (l .boxes)) ∙ sym (ends-at-rest (l .inv .0) (pick .before .before .before .config-in2 .ensures) (test .loop-test .taken) (pick .pick .ensures) (c .before .enum-told .given .1)),
       l .inv .1,
     )
 
@@ -144,7 +144,7 @@ returns-3 c =
     let pick = told .before .before .before in
     let test = pick .before .before .before .before .before in
     let l = test .before .loop in (
-      c .stop-outside2 .ensures _
+      outcome-of (c .stop-outside2 .ensures) _
           ∙ sym (ends-outside (l .inv .0) (pick .before .before .before .config-in2 .ensures) (test .loop-test .taken) (pick .pick .ensures) (told .before .drawn .given .1)
           (make .make .ensures .0) (sym (c .before .before .is-bounded .ensures) ∙ not-true _ (c .before .if2 .taken))),
       make .make .ensures .1 ∙ l .inv .1,
@@ -196,7 +196,7 @@ returns-4 : tie.Need-returns-4 Inv-loop μ-loop
 returns-4 c =
     let test = c .before .before in
     let l = test .before .loop in (
-      c .stop2 .ensures (netOf (l .line) (l .boxes)) ∙ sym (ends-used (l .inv .0) (test .loop-test .left) (c .before .total .ensures)),
+      outcome-of (c .stop2 .ensures) (netOf (l .line) (l .boxes)) ∙ sym (ends-used (l .inv .0) (test .loop-test .left) (c .before .total .ensures)),
       l .inv .1,
     )
 

@@ -15,7 +15,7 @@ config-in-requires : tie.Need-config-in-requires
 config-in-requires c κs = search needs
 
 returns : tie.Need-returns
-returns c =
+returns c kept =
     let start = c .before .before .before .before in
     let sender = c .before .before .before .load .ensures ∙ station-read (start .args .net .now) (start .args .step .sender) (start .pre) in
     rw (c .config-in .ensures, c .before .step-line .ensures, sender)

@@ -10,31 +10,75 @@ use lib.Bits.{bitAnd}
 use Rattle.bitset.specs.Set.{member, without, bitIf, put}
 use Rattle.bitset.specs.internal.Selected.{setOf}
 use Rattle.aggregate.specs.declared.Config.{Config}
+use Rattle.aggregate.specs.declared.Aggregate.{Aggregate}
+use Rattle.aggregate.specs.Aggregate.{rootOf, bounded, clipped}
 use Rattle.station.specs.declared.Station.{Station}
-use Rattle.station.specs.Events.{asleep, active, mayReport, mayAnswer}
+use Rattle.station.specs.Events.{asleep, active, finished, mayReport, mayAnswer}
+use Rattle.station.specs.Form as form
 use Rattle.schedule.specs.declared.Step.{Step}
 use Rattle.schedule.specs.declared.rows.Sizes.{Sizes}
 use Rattle.schedule.specs.Rows.{rowAt, added}
 use Rattle.schedule.specs.internal.Rows.{fourSet, sizesOf, others, HoldRows}
 use Rattle.rendezvous.specs.declared.listing.States.{States}
 use Rattle.rendezvous.specs.declared.listing.Sends.{Sends}
-use Rattle.rendezvous.specs.Net.{Net, station, withTwo, wellFormed}
+use Rattle.rendezvous.specs.Net.{Net, station, told, settled, toldWell, wellFormed}
 use Rattle.rendezvous.specs.Figure.{wake, pass, answer, finishes, starts, wakes, hears, gathers}
+use Rattle.rendezvous.specs.Telling.{tell, known, mayTell, hearsTotal}
 
 -- what a step makes of its sender, to station i
 unfoldable pub sentBy : ℕ → ℕ → Station → Station
-sentBy kind i s = cond (eqb kind wake || eqb kind pass) (starts i s) (finishes s)
+sentBy kind i s = cond (eqb kind wake || eqb kind pass) (starts i s) (cond (eqb kind tell) s (finishes s))
 
 -- and of its receiver r, from station j, which was s; a report is its one station's, twice
 unfoldable pub receivedBy : Config → ℕ → ℕ → Station → Station → Station
 receivedBy t kind j s r =
-    cond (eqb kind wake) (wakes j r) (cond (eqb kind pass) (hears r) (cond (eqb kind answer) (gathers t s r) (finishes r)))
+    cond (eqb kind wake) (wakes j r)
+    (cond (eqb kind pass) (hears r) (cond (eqb kind answer) (gathers t s r) (cond (eqb kind tell) (hearsTotal r) (finishes r))))
 
--- the two stations of a step after it, and the net with them
-pub record Made (net : Net) (step : Step) (s r : Station) (after : Net) : Type 0 where
-  pub sender-is : s ≡ sentBy (step .kind) (step .receiver) (station net (step .sender))
-  pub receiver-is : r ≡ receivedBy (net .config) (step .kind) (step .sender) (station net (step .sender)) (station net (step .receiver))
-  pub after-is : after ≡ withTwo net (step .sender) s (step .receiver) r
+-- and of what is kept
+abbrev pub keptBy : Net → Step → List Aggregate
+keptBy net step =
+    cond (eqb (step .kind) tell) (set (net .kept) (step .receiver) (clipped (net .config) (known net (step .sender)))) (net .kept)
+
+-- the net with two stations replaced, and with what is kept after the step
+abbrev pub withMade : Net → Step → Station → Station → Net
+withMade net step s r =
+    record {
+      config = net .config;
+      stations = set (set (net .stations) (step .sender) s) (step .receiver) r;
+      carrying = net .carrying;
+      kept = keptBy net step;
+    }
+
+-- the net after the step
+abbrev pub madeOf : Net → Step → Net
+madeOf net step =
+    let s = station net (step .sender) in
+    withMade net step (sentBy (step .kind) (step .receiver) s) (receivedBy (net .config) (step .kind) (step .sender) s (station net (step .receiver)))
+
+-- what decides on the form after a step, of its receiver: told, it waits for nothing; else what it has gathered is bounded
+abbrev pub keepsForm : Config → ℕ → Station → Bool
+keepsForm t kind r = cond (eqb kind tell) (eqb (r .waits) 0) (bounded t (r .held))
+
+-- the form of a place, of its station and of what that keeps
+abbrev pub placeFormed : ℕ → Config → ℕ → Station → Aggregate → Bool
+placeFormed carrying t i s v =
+    cond (eqb carrying 1) (form.wellFormed t i (settled s) && (toldWell t i s && bounded t v)) (form.wellFormed t i s)
+
+-- the condition of a tell, over the desk and its two stations
+abbrev pub mayTellOf : Config → ℕ → ℕ → Station → Station → Station → Bool
+mayTellOf t j i desk s r =
+    let reported = eqb (desk .state) finished in
+    reported && cond (eqb j (rootOf t)) reported (eqb (s .state) told) && eqb (r .state) finished && not (eqb i (rootOf t)) && eqb (r .parent) j
+
+-- station p, if it is below k, may tell i, and no other
+pub record Teller (net : Net) (i p : ℕ) : Type 0 where
+  pub only : (s : ℕ) → s < net .config .k → mayTell net s i ≡ eqb s p
+
+-- the rows of the tells to receivers below n, beside those of the other kinds
+pub record AreTells (net : Net) (n : ℕ) (tells : List ℕ) : Type 0 where
+  pub sized : length tells ≡ 260
+  pub row : (s : ℕ) → s < net .config .k → rowAt tells tell s ≡ setOf n (λ i. mayTell net s i)
 
 -- the stations in a state
 unfoldable pub inState : Net → ℕ → ℕ

@@ -8,7 +8,7 @@ use Rattle.schedule.specs.declared.Step.{Step}
 use Rattle.schedule.specs.declared.rows.Sizes.{Sizes}
 use Rattle.schedule.specs.Rules.{Rules, allowed}
 use Rattle.schedule.specs.Listing.{range, select, step}
-use Rattle.schedule.specs.Rows.{stepsOfKind, rowAt, inRows, removed}
+use Rattle.schedule.specs.Rows.{stepsOfKind, rowAt, inRows, sizeOf, removed}
 
 -- the steps of the kinds from `kind` on
 unfoldable pub stepsOf : ℕ → ℕ → ℕ → ℕ → List Step
@@ -22,22 +22,17 @@ fourSet rows n a b c d = set (set (set (set rows (4 * n) a) (4 * n + 1) b) (4 * 
 unfoldable pub listedIn : List ℕ → ℕ → ℕ → List Step
 listedIn rows kinds k = select (inRows rows) (stepsOf 64 kinds k 1)
 
--- how many steps of a kind the rows list
-unfoldable pub sizeOf : List ℕ → ℕ → ℕ → ℕ
-sizeOf rows k kind = length (select (inRows rows) (stepsOfKind 64 k kind 0))
-
--- the same, of each of the four kinds that a sender has rows of
+-- how many steps they list, of each of the four kinds that a sender has rows of
 abbrev pub sizesOf : List ℕ → ℕ → Sizes
 sizesOf rows k = record { first = sizeOf rows k 1; second = sizeOf rows k 2; third = sizeOf rows k 3; fourth = sizeOf rows k 4 }
 
--- the rows of the steps allowed in a net; those of a kind that it does not have are empty
+-- the rows of the steps of kinds 1 to 4 that are allowed in a net; those of a kind that it does not have are empty
 pub record AreRows {Net : Type 0} (R : Rules Net) (net : Net) (rows : List ℕ) : Type 0 where
   pub row : (kind s : ℕ) → 1 ≤ kind → kind ≤ 4 → s < R .stations net
       → rowAt rows kind s ≡ setOf (R .stations net) (λ r. allowed R net (step kind s r))
 
--- what a net's code knows once its rows are filled: they are those of the steps allowed, and these are their sizes
+-- what a net's code knows once its rows are filled: they are those of the steps allowed, of kinds 1 to 4, and these are their sizes
 pub record Filled {Net : Type 0} (R : Rules Net) (net : Net) (rows : List ℕ) (z : Sizes) : Type 0 where
-  pub kinds : R .kinds ≤ 4
   pub few : R .stations net ≤ 64
   pub are : AreRows R net rows
   pub sizes : z ≡ sizesOf rows (R .stations net)

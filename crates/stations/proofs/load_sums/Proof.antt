@@ -25,8 +25,8 @@ add-sums c = omega arith
 mul-sums : tie.Need-mul-sums Inv-loop μ-loop
 mul-sums c = omega arith
 
-element-copy-out-sums : tie.Need-element-copy-out-sums Inv-loop μ-loop
-element-copy-out-sums c = omega arith
+shared-slice-read-sums : tie.Need-shared-slice-read-sums Inv-loop μ-loop
+shared-slice-read-sums c = omega arith
 
 mul-sums-2 : tie.Need-mul-sums-2 Inv-loop μ-loop
 mul-sums-2 c = omega arith
@@ -62,7 +62,7 @@ load-sums-spec =
     loop-holds
     add-sums
     mul-sums
-    element-copy-out-sums
+    shared-slice-read-sums
     mul-sums-2
     array-write-sums
     add-j

@@ -1,6 +1,4 @@
 -- `stations::store_from` meets its contract: the words are stored one after the other, and what is stored fits. Assumes nothing.
-use mathlib.Core.Path.{sym, ap, _∙_}
-use Rattle.finite.specs.Numbers.{bytes}
 use Rattle.stations.specs.Words.{withStation}
 use borrow.Author.Needs.{needs}
 use Rattle.stations.proofs.store_from.Statement.{statement}
@@ -18,11 +16,8 @@ element-copy-out-fields-word c = search needs
 fields-word-requires : tie.Need-fields-word-requires
 fields-word-requires c κs = search needs
 
-missing-word-requires : tie.Need-missing-word-requires
-missing-word-requires c κs = search needs
-
-store-sums-requires : tie.Need-store-sums-requires
-store-sums-requires c κs = search needs
+store-aggregate-requires : tie.Need-store-aggregate-requires
+store-aggregate-requires c κs = search needs
 
 add-words : tie.Need-add-words
 add-words c = search needs
@@ -42,30 +37,12 @@ mul-words-2 c = search needs
 element-write-words-2 : tie.Need-element-write-words-2
 element-write-words-2 c = search needs
 
-add-words-3 : tie.Need-add-words-3
-add-words-3 c = search needs
-
-mul-words-3 : tie.Need-mul-words-3
-mul-words-3 c = search needs
-
-element-write-words-3 : tie.Need-element-write-words-3
-element-write-words-3 c = search needs
-
 returns : tie.Need-returns
 unfolding withStation
 returns c =
-    let missing = c .before .before .missing-word .ensures in
-    let fields = c .before .before .before .fields-word .ensures in
-    let stored = c .store-sums .ensures in (
-      rw (stored .0, missing .0, fields .0),
-      record {
-        sums-long = stored .1;
-        missing-again = ap (bytes 8) (sym (missing .0)) ∙ missing .1;
-        parent-byte = fields .1 .0;
-        waits-byte = fields .1 .1;
-        state-byte = fields .1 .2;
-      },
-    )
+    let fields = c .before .before .fields-word .ensures in
+    let stored = c .store-aggregate .ensures in
+    (rw (stored .0, fields .0), record { held-fits = stored .1; parent-byte = fields .1 .0; waits-byte = fields .1 .1; state-byte = fields .1 .2 })
 
 pub store-from-spec : {M : Type 1} → statement M
 store-from-spec =
@@ -75,15 +52,11 @@ store-from-spec =
     mul-fields-word
     element-copy-out-fields-word
     fields-word-requires
-    missing-word-requires
-    store-sums-requires
+    store-aggregate-requires
     add-words
     mul-words
     element-write-words
     add-words-2
     mul-words-2
     element-write-words-2
-    add-words-3
-    mul-words-3
-    element-write-words-3
     returns)

@@ -1,13 +1,14 @@
 -- `stations::store_sums` meets its contract: the invariant is the definition, sum by sum. Assumes nothing.
-use mathlib.Core.Path.{_≡_, refl, sym, _∙_}
+use mathlib.Core.Path.{_≡_, refl, sym, ap, _∙_}
 use mathlib.Core.List.{List}
 use Prim.Native.Nat.{ℕ, _+_, _-_, _≤_}
 use native.Mathlib.Numerals.{add-one}
 use native.Mathlib.Omega.{arith}
-use lib.ListN.{set, length-map}
+use lib.ListN.{length, set, length-map}
 use Rattle.aggregate.specs.declared.Aggregate.{Aggregate}
 use Rattle.aggregate.specs.Aggregate.{cell}
 use Rattle.stations.specs.Words.{withSums}
+use Rattle.stations.proofs.Words.{length-sums}
 use Rattle.stations.proofs.store_sums.Statement.{statement}
 use Rattle.stations.proofs.store_sums.Tie as tie
 
@@ -39,8 +40,11 @@ add-words c = omega arith
 mul-words-2 : tie.Need-mul-words-2 Inv-loop μ-loop
 mul-words-2 c = omega arith
 
-element-write-words : tie.Need-element-write-words Inv-loop μ-loop
-element-write-words c = omega arith
+slice-write-words : tie.Need-slice-write-words Inv-loop μ-loop
+slice-write-words c =
+    let a = c .before .before .before .args in
+    let l = c .before .before .loop in
+    omega (arith, ap length (l .inv .1), length-sums (a .words .now) (a .at) (a .t3) (l .j), c .before .before .before .pre)
 
 add-j : tie.Need-add-j Inv-loop μ-loop
 add-j c = omega arith
@@ -53,6 +57,12 @@ loop-again c =
     let a = c .before .before .before .args in
     let l = c .before .before .loop in
     (omega arith, sums-more (a .words .now) (a .at) (a .t3) (l .j) (l .words) (l .inv .1))
+
+same-length : tie.Need-same-length Inv-loop μ-loop
+same-length c =
+    let a = c .before .before .args in
+    let l = c .before .loop in
+    ap length (l .inv .1) ∙ length-sums (a .words .now) (a .at) (a .t3) (l .j)
 
 returns : tie.Need-returns Inv-loop μ-loop
 returns c =
@@ -72,8 +82,9 @@ store-sums-spec =
     element-copy-out-words
     add-words
     mul-words-2
-    element-write-words
+    slice-write-words
     add-j
     loop-less
     loop-again
+    same-length
     returns)

@@ -129,8 +129,8 @@ pub fn hostile<N: Sample>(subject: &impl NetCalls<N>, count: u64) {
 }
 
 fn require_kinds<N: Net>(seen: &Coverage) {
-    seen.require("kind", 1..=N::REPORT);
-    seen.require("kind drawn", 1..=N::REPORT);
+    seen.require("kind", 1..=N::LAST);
+    seen.require("kind drawn", 1..=N::LAST);
     seen.require("run to rest", [0]);
 }
 
@@ -156,7 +156,7 @@ pub fn list<N: Sample>(
     mut net: N,
     mut make: impl FnMut(&mut N, &Call) -> Reply,
 ) {
-    let whole = Record::whole(map);
+    let whole = Record::full::<N>(map);
     let count = rng.index(whole + 3);
     check_run_formula(subject, map, &net, &call::draws(rng, count));
     let mut record = Record::new::<N>(map);
@@ -201,7 +201,7 @@ fn whole_wave<N: Sample>(subject: &impl NetCalls<N>, rng: &mut Rng, map: &Map) {
     let mut seen = Coverage::default();
     let mut net: N = fresh(subject, rng, map, &mut seen);
     let before = net.clone();
-    let call = Call::Run(call::draws(rng, Record::whole(map) + 1));
+    let call = Call::Run(call::draws(rng, Record::full::<N>(map) + 1));
     let reply = compare(subject, &mut net, &call, &mut seen);
     let mut record = Record::new::<N>(map);
     record.enter(subject, &before, &call, &reply, &net);
@@ -220,7 +220,7 @@ pub fn kinds_agree<A: Sample, B: Sample>(left: &impl NetCalls<A>, right: &impl N
 fn reported<N: Sample>(subject: &impl NetCalls<N>, rng: &mut Rng, map: &Map) -> Aggregate {
     let mut net: N = junk(rng);
     subject.fresh(map, &mut net).expect("the map is accepted");
-    let draws = call::draws(rng, Record::whole(map));
+    let draws = call::draws(rng, Record::full::<N>(map));
     assert!(subject.run(&mut net, &draws).at_rest, "a whole wave comes to rest");
     net.stations()[usize::from(map.desk)].held
 }

@@ -4,7 +4,7 @@ use super::Coverage;
 use crate::calls::{Model, SheetCalls};
 use crate::gen::sheet::{lot, reported};
 use crate::model::map::{accept, Map, LOT_LIMIT};
-use crate::model::meet::Meet;
+use crate::model::meet::{Meet, CARRYING, WITHOUT};
 use crate::model::net::{Config, Net};
 use crate::model::refusal::number;
 use crate::model::sheet::{is_reported, length, LINE};
@@ -52,8 +52,13 @@ pub fn sheets(subject: &impl SheetCalls, count: u64) {
         let room = rng.pick(&[0, needed - LINE, needed - 1, needed, needed, needed, needed + 1, needed + 50]);
         let number = compare(subject, rng, &map, &net, room);
         seen.note("sheet", number);
-        if number == 0 {
-            seen.note("classes on a sheet", map.classes);
+        match number {
+            0 => {
+                seen.note("classes on a sheet", map.classes);
+                seen.note("opening on a sheet", net.carrying);
+            }
+            11 => seen.note("opening out of form", net.carrying.min(CARRYING + 1)),
+            _ => {}
         }
         let amiss = amiss(&map, &net, room);
         for (second, _) in amiss.iter().enumerate().filter(|test| *test.1) {
@@ -64,6 +69,8 @@ pub fn sheets(subject: &impl SheetCalls, count: u64) {
     });
     seen.require("sheet", [0, 2, 3, 7, 8, 9, 10, 11, 15, 18, 19, 20, 21]);
     seen.require("classes on a sheet", 1..=MOST_CLASSES);
+    seen.require("opening on a sheet", [WITHOUT, CARRYING]);
+    seen.require("opening out of form", [WITHOUT, CARRYING, CARRYING + 1]);
     // a net out of form has no desk to ask
     let pairs = (0..6).flat_map(|second| (0..second).map(move |first| 10 * first + second));
     seen.require("amiss together", pairs.filter(|&pair| pair != 24));

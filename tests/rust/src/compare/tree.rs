@@ -34,14 +34,14 @@ pub fn largest<N: Sample>(subject: &impl NetCalls<N>) {
     });
 }
 
-/// One wave; whether a neighbour of the desk hangs on another station.
+/// One wave, and the tells after it where totals are carried back; whether a neighbour of the desk hangs on another station.
 fn wave<N: Sample>(subject: &impl NetCalls<N>, rng: &mut Rng, map: &Map) -> bool {
     let mut net: N = junk(rng);
     subject.fresh(map, &mut net).expect("the map is accepted");
     let mut sent = Vec::new();
-    for draw in call::draws(rng, Record::whole(map)) {
+    for draw in call::draws(rng, Record::full::<N>(map)) {
         let before = net.clone();
-        let step = subject.draw(&mut net, draw).expect("a whole wave makes 2m + 1 steps");
+        let step = subject.draw(&mut net, draw).expect("a full run makes 2m + 1 steps, and its tells");
         sent.extend(went_by(&before, step, &net).map(|brought| (step.sender, step.receiver, brought)));
         assert_parents_stay(&before, &net);
     }

@@ -64,6 +64,7 @@ impl LaidOut for Mail {
 
     fn take_back(Net { line, between, words }: &Net) -> Mail {
         between.assert_untouched();
+        line.assert_no_flag();
         Mail { config: line.config(), stations: line.stations(), outboxes: words.outboxes() }
     }
 }

@@ -19,7 +19,9 @@ struct Config {
     k: u8,
     classes: u8,
     desk: u8,
-    beside: [u8; 5],
+    /// Where stations meet, whether totals are carried back; else beside.
+    flag: u8,
+    beside: [u8; 4],
 }
 
 /// A station in its place.
@@ -57,12 +59,32 @@ pub struct Line {
 
 impl Line {
     pub fn of(rules::Config { k, classes, desk }: rules::Config, stations: &[model::Station; PLACES]) -> Line {
-        Line { config: Config { k, classes, desk, beside: [BESIDE; 5] }, stations: stations.each_ref().map(Place::of) }
+        Line::flagged(rules::Config { k, classes, desk }, BESIDE, stations)
+    }
+
+    pub fn flagged(
+        rules::Config { k, classes, desk }: rules::Config,
+        flag: u8,
+        stations: &[model::Station; PLACES],
+    ) -> Line {
+        Line {
+            config: Config { k, classes, desk, flag, beside: [BESIDE; 4] },
+            stations: stations.each_ref().map(Place::of),
+        }
+    }
+
+    pub fn flag(&self) -> u8 {
+        self.config.flag
+    }
+
+    /// Where there is no flag.
+    pub fn assert_no_flag(&self) {
+        assert_eq!(self.config.flag, BESIDE, "what stands beside k, c and the desk was written");
     }
 
     pub fn config(&self) -> rules::Config {
-        let Config { k, classes, desk, beside } = self.config;
-        assert_eq!(beside, [BESIDE; 5], "what stands beside k, c and the desk was written");
+        let Config { k, classes, desk, beside, .. } = self.config;
+        assert_eq!(beside, [BESIDE; 4], "what stands beside k, c and the desk was written");
         rules::Config { k, classes, desk }
     }
 

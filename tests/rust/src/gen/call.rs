@@ -51,7 +51,7 @@ fn report<N: Net>(rng: &mut Rng, net: &N) -> Step {
 
 fn in_range<N: Net>(rng: &mut Rng, net: &N) -> Step {
     let k = net.k().max(1);
-    Step { kind: 1 + rng.station(N::REPORT), sender: rng.station(k), receiver: rng.station(k) }
+    Step { kind: 1 + rng.station(N::LAST), sender: rng.station(k), receiver: rng.station(k) }
 }
 
 /// A kind or a station number, in range or not.

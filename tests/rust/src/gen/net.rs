@@ -5,11 +5,12 @@ use super::aggregate::{self, BOUNDS, NO_CLASS_COUNTS};
 use super::mail::{self, SPARSITIES};
 use super::map::NO_STATION_COUNTS;
 use super::{call, map, station};
+use crate::model::aggregate::{Aggregate, MOST_MISSING, SUM_LIMIT};
 use crate::model::demand::Record;
 use crate::model::mail::Mail;
-use crate::model::meet::Meet;
+use crate::model::meet::{Back, Meet, CARRYING, TOLD, WITHOUT};
 use crate::model::net::{Config, Net};
-use crate::model::station::Station;
+use crate::model::station::{Station, FINISHED};
 use crate::model::PLACES;
 use crate::rng::Rng;
 
@@ -30,15 +31,72 @@ pub trait Sample: Net {
 
 impl Sample for Meet {
     fn scattered(_: &mut Rng, config: Config, stations: [Station; PLACES]) -> Meet {
-        Meet { config, stations }
+        Meet { config, stations, carrying: WITHOUT, kept: [Aggregate::default(); PLACES] }
+    }
+
+    /// Without carrying back nothing looks at what is kept.
+    fn litter(&mut self, rng: &mut Rng) {
+        litter_stations(rng, self.config, &mut self.stations);
+        self.kept = self.kept.map(|_| station::any(rng).held);
+    }
+
+    fn spoil_message(&mut self, rng: &mut Rng) -> bool {
+        self.carrying = rng.byte().max(2);
+        true
+    }
+}
+
+/// With carrying back: some stations told, totals kept that are in form, often at their bounds, the desk often finished.
+impl Sample for Back {
+    fn scattered(rng: &mut Rng, config: Config, stations: [Station; PLACES]) -> Back {
+        let mut net = Meet { config, stations, carrying: CARRYING, kept: [Aggregate::default(); PLACES] };
+        for i in 0..config.k {
+            let place = usize::from(i);
+            net.kept[place] = station::in_form(rng, i, config).held;
+            let station = &mut net.stations[place];
+            if i == config.desk {
+                if rng.chance(70) {
+                    station.state = FINISHED;
+                }
+            } else if rng.chance(30) {
+                station.state = TOLD;
+                station.waits = 0;
+            } else if rng.chance(50) {
+                station.state = FINISHED;
+                if rng.chance(80) {
+                    station.waits = 0;
+                }
+                if rng.chance(50) {
+                    station.parent = config.desk;
+                }
+            }
+        }
+        Back(net)
     }
 
     fn litter(&mut self, rng: &mut Rng) {
-        litter_stations(rng, self.config, &mut self.stations);
+        let Meet { config, stations, kept, .. } = &mut self.0;
+        litter_stations(rng, *config, stations);
+        let (below, past) = kept.split_at_mut(config.k.into());
+        below.iter_mut().for_each(|total| aggregate::litter(rng, total, config.classes));
+        past.iter_mut().for_each(|total| *total = station::any(rng).held);
     }
 
-    fn spoil_message(&mut self, _: &mut Rng) -> bool {
-        false
+    /// Another flag, a told desk, a told station that waits, a kept total over its bound.
+    fn spoil_message(&mut self, rng: &mut Rng) -> bool {
+        let (config, i) = (self.0.config, usize::from(rng.station(self.0.config.k)));
+        let class = usize::from(rng.station(config.classes));
+        match rng.below(5) {
+            0 => self.0.carrying = rng.byte().max(2),
+            1 => self.0.stations[usize::from(config.desk)].state = TOLD,
+            2 => {
+                self.0.stations[i].state = TOLD;
+                self.0.stations[i].waits = 1 + rng.station(64);
+            }
+            3 => self.0.kept[i].sums[class] = SUM_LIMIT,
+            _ => self.0.kept[i].missing[class] = MOST_MISSING + 1,
+        }
+        true
     }
 }
 
@@ -109,7 +167,7 @@ pub fn junk<N: Sample>(rng: &mut Rng) -> N {
 fn reachable<N: Sample>(rng: &mut Rng) -> N {
     let map = map::accepted(rng);
     let mut net = N::set_up(&map);
-    let steps = rng.index(Record::whole(&map) + 1).min(LONGEST_WAY);
+    let steps = rng.index(Record::full::<N>(&map) + 1).min(LONGEST_WAY);
     let draws = call::draws(rng, steps);
     net.run(&draws);
     net

@@ -1,9 +1,10 @@
 //! A map and a net for its sheet: reported lots, lots that look so, and ones with things amiss, alone and together.
 
+use super::net::Sample;
 use super::{call, map, net};
 use crate::model::demand::Record;
 use crate::model::map::Map;
-use crate::model::meet::Meet;
+use crate::model::meet::{Back, Meet, CARRYING, WITHOUT};
 use crate::model::net::{Config, Net};
 use crate::model::sheet::TOTAL_LIMIT;
 use crate::model::station::{ACTIVE, ASLEEP, FINISHED};
@@ -18,19 +19,20 @@ const LONG_TOTALS: [u64; 3] = [TOTAL_LIMIT, TOTAL_LIMIT + 1, (1 << 62) - 1];
 /// How often each thing is amiss, in a hundred.
 const AMISS: u64 = 15;
 
-/// A map of few steps, run to its report.
+/// A map of few steps, run to its report, and on from there where totals are carried back.
 pub fn reported(rng: &mut Rng) -> (Map, Meet) {
     let (k, classes) = (1 + rng.station(6), super::aggregate::class_count(rng));
     let map = map::accepted_of(rng, k, classes);
-    let mut net = Meet::set_up(&map);
-    let draws = call::draws(rng, Record::whole(&map));
+    let mut net = Meet::open(&map, rng.pick(&[WITHOUT, CARRYING]));
+    let steps = Record::whole(&map) + rng.index(usize::from(k));
+    let draws = call::draws(rng, steps);
     net.run(&draws);
     (map, net)
 }
 
 /// A net in form with these numbers, whose desk has finished, with any totals that fit.
 fn finished(rng: &mut Rng, config: Config) -> Meet {
-    let mut net: Meet = net::in_form_of(rng, config);
+    let mut net = if rng.chance(50) { net::in_form_of(rng, config) } else { net::in_form_of::<Back>(rng, config).0 };
     let desk = &mut net.stations[usize::from(config.desk)];
     desk.state = FINISHED;
     for class in 0..usize::from(config.classes) {
@@ -67,6 +69,17 @@ fn unreport(rng: &mut Rng, net: &mut Meet) {
     }
 }
 
+/// Alters a net as one of its opening.
+fn alter(rng: &mut Rng, net: &mut Meet, without: fn(&mut Rng, &mut Meet), carrying: fn(&mut Rng, &mut Back)) {
+    if net.carrying == CARRYING {
+        let mut back = Back(net.clone());
+        carrying(rng, &mut back);
+        *net = back.0;
+    } else {
+        without(rng, net);
+    }
+}
+
 /// A map and a net as they may be handed over.
 pub fn lot(rng: &mut Rng) -> (Map, Meet) {
     if rng.chance(20) {
@@ -82,10 +95,10 @@ pub fn lot(rng: &mut Rng) -> (Map, Meet) {
         unreport(rng, &mut net);
     }
     if rng.chance(40) {
-        net::Sample::litter(&mut net, rng);
+        alter(rng, &mut net, |rng, net| net.litter(rng), |rng, net| net.litter(rng));
     }
     if rng.chance(AMISS) {
-        net::spoil(rng, &mut net);
+        alter(rng, &mut net, net::spoil, net::spoil);
     }
     if rng.chance(AMISS) {
         map::break_rules(rng, &mut map);

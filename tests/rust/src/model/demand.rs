@@ -24,6 +24,11 @@ impl<'a> Record<'a> {
         2 * map.links() as usize + 1
     }
 
+    /// With those after the report, where totals are carried back: 2 × m + k.
+    pub fn full<N: Net>(map: &Map) -> usize {
+        Record::whole(map) + N::tells(map)
+    }
+
     /// Enters one call: the net it was lent, its reply and the net it left. A refused step or draw makes none.
     pub fn enter<N: Net>(&mut self, subject: &impl NetCalls<N>, before: &N, call: &Call, reply: &Reply, after: &N) {
         match (call, reply) {
@@ -69,26 +74,49 @@ impl<'a> Record<'a> {
     /// Closes the list with the net it leaves, and checks every claim of demand 3.
     pub fn close<N: Net>(&self, subject: &impl NetCalls<N>, net: &N) {
         let at_rest = is_at_rest(subject, net);
+        let counted = self.counted();
         let reports = self.steps.iter().filter(|step| step.kind == self.report).count();
         assert!(reports <= 1, "at most one report");
-        assert!(self.steps.len() <= Record::whole(self.map), "at most 2m + 1 steps");
+        assert!(counted.len() <= Record::whole(self.map), "at most 2m + 1 steps");
         let messages = self.messages();
         let reported = reports == 1;
-        assert_eq!(reported, at_rest, "nothing is allowed just when the report was made");
-        assert_eq!(reported, self.steps.len() == Record::whole(self.map), "all steps are made just when it was");
+        assert!(reported || counted.len() == self.steps.len(), "no tell before the report");
+        assert_eq!(
+            at_rest,
+            self.steps.len() == Record::full::<N>(self.map),
+            "nothing is allowed just when all steps were made"
+        );
+        assert_eq!(
+            reported,
+            counted.len() == Record::whole(self.map),
+            "all are made but tells just when the report was"
+        );
+        let others = net.listing().into_iter().filter(|step| step.kind <= self.report).count();
+        assert_eq!(reported, others == 0, "nothing but tells is allowed just when the report was made");
+        if at_rest {
+            net.check_rest(self.map);
+        }
         if reported {
             let desk = self.map.desk;
             let report = Step { kind: self.report, sender: desk, receiver: desk };
-            assert_eq!(self.steps.last(), Some(&report), "every order ends in that desk's report");
+            assert_eq!(counted.last(), Some(&report), "every order ends in that desk's report");
             assert_eq!(net.stations()[usize::from(desk)].held, self.map.total(), "each class reports its own total");
             assert_eq!(messages + 1, Record::whole(self.map), "each link carried one message each way");
         }
     }
 
+    /// The steps that demand 3 counts: all but tells, which follow them.
+    fn counted(&self) -> &[Step] {
+        let tells = self.steps.iter().rev().take_while(|step| step.kind > self.report).count();
+        let counted = &self.steps[..self.steps.len() - tells];
+        assert!(counted.iter().all(|step| step.kind <= self.report), "only tells follow the report");
+        counted
+    }
+
     /// Counts the messages: only over links, and none twice in a direction.
     fn messages(&self) -> usize {
         let mut carried = BTreeSet::new();
-        for step in self.steps.iter().filter(|step| step.kind != self.report) {
+        for step in self.counted().iter().filter(|step| step.kind != self.report) {
             let neighbours = self.map.neighbours[usize::from(step.sender)];
             assert!(set::contains(neighbours, step.receiver), "messages go over links only: {step:?}");
             assert!(carried.insert((step.sender, step.receiver)), "no message twice in a direction: {step:?}");
@@ -104,9 +132,9 @@ fn is_at_rest<N: Net>(subject: &impl NetCalls<N>, net: &N) -> bool {
     drawn
 }
 
-/// The run's formula: from a fresh net, the smaller of the draw count and 2 × m + 1.
+/// The run's formula: from a fresh net, the smaller of the draw count and 2 × m + 1, or 2 × m + k.
 pub fn check_run_formula<N: Net>(subject: &impl NetCalls<N>, map: &Map, fresh: &N, draws: &[u16]) {
     let run = subject.run(&mut fresh.clone(), draws);
-    assert_eq!(run.steps as usize, draws.len().min(Record::whole(map)), "the run's formula");
-    assert_eq!(run.at_rest, draws.len() >= Record::whole(map), "a run is at rest just when it made every step");
+    assert_eq!(run.steps as usize, draws.len().min(Record::full::<N>(map)), "the run's formula");
+    assert_eq!(run.at_rest, draws.len() >= Record::full::<N>(map), "a run is at rest just when it made every step");
 }

@@ -38,11 +38,27 @@ pub struct Run {
 }
 
 pub trait Net: Clone + PartialEq + Debug {
-    /// The number of the report, which is the last kind.
+    /// The number of the report, which is the last kind but for tells.
     const REPORT: u8;
+
+    /// The last kind of step.
+    const LAST: u8 = Self::REPORT;
 
     /// The fresh net of an accepted map.
     fn set_up(map: &Map) -> Self;
+
+    /// The kinds of step go to this.
+    fn kinds(&self) -> u8 {
+        Self::REPORT
+    }
+
+    /// The steps of a full run after its report: tells, where totals are carried back.
+    fn tells(_: &Map) -> usize {
+        0
+    }
+
+    /// What else holds of a net on this map that is at rest.
+    fn check_rest(&self, _: &Map) {}
 
     fn config(&self) -> Config;
 
@@ -84,7 +100,7 @@ pub trait Net: Clone + PartialEq + Debug {
 
     /// Number 12: kind, station numbers, and a report only at the desk and the desk.
     fn is_in_range(&self, step: Step) -> bool {
-        (1..=Self::REPORT).contains(&step.kind)
+        (1..=self.kinds()).contains(&step.kind)
             && step.sender < self.k()
             && step.receiver < self.k()
             && (step.kind != Self::REPORT || [step.sender, step.receiver] == [self.config().desk; 2])
@@ -93,7 +109,7 @@ pub trait Net: Clone + PartialEq + Debug {
     /// The allowed steps of a net in form, by kind, then sender, then receiver, rising.
     fn listing(&self) -> Vec<Step> {
         let mut steps = Vec::new();
-        for kind in 1..=Self::REPORT {
+        for kind in 1..=self.kinds() {
             let Config { k, desk, .. } = self.config();
             let stations = if kind == Self::REPORT { desk..desk + 1 } else { 0..k };
             for sender in stations.clone() {

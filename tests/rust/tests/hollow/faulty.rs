@@ -21,6 +21,10 @@ pub trait Fault<N: Net>: Copy + Default + PartialEq + Debug {
         net.is_well_formed()
     }
 
+    fn kinds(self, net: &N) -> u8 {
+        net.kinds()
+    }
+
     fn is_in_range(self, net: &N, step: Step) -> bool {
         net.is_in_range(step)
     }
@@ -52,9 +56,14 @@ pub struct Faulty<N, F> {
 
 impl<N: Net, F: Fault<N>> Net for Faulty<N, F> {
     const REPORT: u8 = N::REPORT;
+    const LAST: u8 = N::LAST;
 
     fn set_up(map: &Map) -> Faulty<N, F> {
         Faulty { net: N::set_up(map), fault: F::default() }
+    }
+
+    fn kinds(&self) -> u8 {
+        self.fault.kinds(&self.net)
     }
 
     fn config(&self) -> Config {

@@ -15,7 +15,7 @@ laid-requires : tie.Need-laid-requires
 laid-requires c κs =
     let a = c .before .before .before .before .before .args in
     let told = ap (λ (o : SheetOutcome). o .numbers) (c .before .before .put-sheet .ensures) in
-    rw told (sheet-small (a .map) (netIn (a .net .now)) (a .bytes .now))
+    rw told (sheet-small (a .map) (netIn (a .net .now) (a .kept .now)) (a .bytes .now))
 
 same-length : tie.Need-same-length
 same-length c = search needs

@@ -17,10 +17,10 @@ use Rattle.rendezvous.proofs.listing.follow.Statement.{statement}
 use Rattle.rendezvous.proofs.listing.follow.Tie as tie
 
 abbrev Inv-loop : tie.InvT-loop
-Inv-loop rows₀ k kept states all₀ both x₀ rows all x = (x ≤ k) × HoldSome (Passed both (keptAt kept) x) k states (keptAt kept) rows all
+Inv-loop rows₀ k kept states same₀ all₀ both x₀ rows all x = (x ≤ k) × HoldSome (Passed both (keptAt kept) x) k states (keptAt kept) rows all
 
 abbrev μ-loop : tie.MeasureT-loop
-μ-loop rows₀ k kept states all₀ both x₀ rows all x = k - x
+μ-loop rows₀ k kept states same₀ all₀ both x₀ rows all x = k - x
 
 -- the step has left the states as they were
 same : (c : tie.Then2 Inv-loop μ-loop) → let a = c .before .before .before .before .before .before .before .before .before .before .args in a .states ≡ a .old
@@ -48,18 +48,18 @@ returns : tie.Need-returns Inv-loop μ-loop
 returns c = c .fill .ensures
 
 refill-requires : tie.Need-refill-requires Inv-loop μ-loop
-refill-requires c κs = let p = c .before .before .pre .0 in omega (arith, p .0, p .1 .0)
+refill-requires c κs = let p = c .before .before .before .before .before .before .pre .0 in omega (arith, p .0, p .1 .0)
 
 refill-requires-2 : tie.Need-refill-requires-2 Inv-loop μ-loop
-refill-requires-2 c κs = let p = c .before .before .before .before .pre .0 in omega (arith, p .0, p .1 .1)
+refill-requires-2 c κs = let p = c .before .before .before .before .before .before .before .before .pre .0 in omega (arith, p .0, p .1 .1)
 
 returns-2 : tie.Need-returns-2 Inv-loop μ-loop
 returns-2 c =
     let start = c .before .before .before .before .before .before .before .before .before .before in
     let step = start .args .step in
     let p = start .pre .0 in
-    let one = held-anew (p .0) (held c) (step .sender) (p .1 .0) (c .before .before .before .before .before .before .before .refill .ensures) in
-    hold-all (λ s m. others-or-two step s) (held-anew (p .0) one (step .receiver) (p .1 .1) (c .before .before .before .before .before .refill2 .ensures))
+    let one = held-anew (p .0) (held c) (step .sender) (p .1 .0) (c .before .before .before .refill .ensures) in
+    hold-all (λ s m. others-or-two step s) (held-anew (p .0) one (step .receiver) (p .1 .1) (c .before .refill2 .ensures))
 
 bit-if-requires : tie.Need-bit-if-requires Inv-loop μ-loop
 bit-if-requires c κs = search needs
@@ -72,13 +72,13 @@ union-requires c κs = search needs
 
 loop-holds : tie.Need-loop-holds Inv-loop μ-loop
 loop-holds c =
-    let known4 = c .before .before .before .before in
+    let second = c .before .before .before .before in
+    let first = second .before .before in
+    let known4 = first .before .before .before in
     let known3 = known4 .before in
     let known2 = known3 .before in
     let known = known2 .before in
-    let second = known .before in
-    let first = second .before .before in
-    let start = first .before .before .before in
+    let start = known .before in
     let a = start .args in
     let step = a .step in
     let p = start .pre .0 in
@@ -92,19 +92,19 @@ loop-holds c =
     (omega arith, passed-none _ step set (held-anew (p .0) one (step .receiver) (p .1 .1) (second .refill2 .ensures)))
 
 cast-at : tie.Need-cast-at Inv-loop μ-loop
-cast-at c = search needs
+cast-at c = omega (arith, low c)
 
 mul-starts : tie.Need-mul-starts Inv-loop μ-loop
-mul-starts c = search needs
+mul-starts c = omega (arith, low c)
 
 element-copy-out-starts : tie.Need-element-copy-out-starts Inv-loop μ-loop
 element-copy-out-starts c = omega (arith, low c)
 
 add-home : tie.Need-add-home Inv-loop μ-loop
-add-home c = search needs
+add-home c = omega (arith, low (c .before))
 
 mul-home : tie.Need-mul-home Inv-loop μ-loop
-mul-home c = search needs
+mul-home c = omega (arith, low (c .before))
 
 element-copy-out-home : tie.Need-element-copy-out-home Inv-loop μ-loop
 element-copy-out-home c = omega (arith, low (c .before))

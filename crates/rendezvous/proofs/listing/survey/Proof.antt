@@ -1,16 +1,16 @@
 -- `rendezvous::listing::survey` meets its contract. Invariant: the stations below j are in form, both sets are of them, and what they may send is
 -- kept; one that is not in form ends it. Assumes nothing.
 use mathlib.Core.Path.{_≡_, refl, sym, _∙_, ap, ap₂, subst}
-use mathlib.Core.Bool.{Bool, true, false, and-false}
+use mathlib.Core.Bool.{Bool, true, false}
 use mathlib.Core.List.{List}
 use Prim.Native.Nat.{ℕ, _+_, _-_, _≤_, _<_, _^_}
 use native.Mathlib.Omega.{arith}
 use lib.Dec.{eqb}
 use borrow.Author.Needs.{needs}
-use borrow.Author.Tests.{not-true, not-false}
+use borrow.Author.Tests.{not-true, not-false, eq-eqb, ne-eqb}
 use Rattle.finite.specs.Below.{allBelow}
-use Rattle.finite.proofs.Below.{all-below-more, all-below-fails}
-use Rattle.finite.proofs.Cases.{clash}
+use Rattle.finite.proofs.Below.{all-below-more}
+use Rattle.finite.proofs.Cases.{clash, by-sum}
 use Rattle.bitset.specs.Set.{bitIf}
 use Rattle.bitset.specs.internal.Selected.{setOf}
 use Rattle.bitset.proofs.Selected.{set-next}
@@ -18,14 +18,13 @@ use Rattle.aggregate.specs.declared.Config.{Config}
 use Rattle.aggregate.specs.Aggregate.{valid}
 use Rattle.aggregate.proofs.Laws.{valid-k}
 use Rattle.station.specs.declared.Station.{Station}
-use Rattle.station.specs.Form as form
 use Rattle.station.specs.Events as events
-use Rattle.stations.specs.Stations.{areWellFormed}
 use Rattle.stations.proofs.Words.{station-read}
 use Rattle.rendezvous.specs.declared.listing.States.{States}
 use Rattle.rendezvous.specs.Net.{Net, netIn, station, wellFormed}
 use Rattle.rendezvous.specs.internal.Receivers.{inState, sendsOf, AreSends, Surveyed}
 use Rattle.rendezvous.proofs.Kept.{kept-none, kept-next}
+use Rattle.rendezvous.proofs.FormAfter.{placed, barred-config, barred-place, all-placed, place-read, unformed-flag}
 use Rattle.rendezvous.proofs.listing.survey.Statement.{statement}
 use Rattle.rendezvous.proofs.listing.survey.Tie as tie
 
@@ -33,37 +32,33 @@ use Rattle.rendezvous.proofs.listing.survey.Tie as tie
 abbrev below : Net → ℕ → ℕ → ℕ
 below net state i = setOf i (λ x. eqb (station net x .state) state)
 
--- the form of station i
-abbrev isFormed : Net → ℕ → Bool
-isFormed net i = form.wellFormed (net .config) i (station net i)
-
 abbrev Inv-loop : tie.InvT-loop
-Inv-loop words kept₀ t k asleep₀ active₀ j₀ kept asleep active j =
+Inv-loop words totals kept₀ carrying t k asleep₀ active₀ j₀ kept asleep active j =
     (j ≤ k)
-    × (allBelow j (isFormed (netIn words)) ≡ true)
-    × (asleep ≡ below (netIn words) events.asleep j)
-    × (active ≡ below (netIn words) events.active j)
-    × AreSends (netIn words) j kept
+    × (allBelow j (placed (netIn words totals)) ≡ true)
+    × (asleep ≡ below (netIn words totals) events.asleep j)
+    × (active ≡ below (netIn words totals) events.active j)
+    × AreSends (netIn words totals) j kept
 
 abbrev μ-loop : tie.MeasureT-loop
-μ-loop words kept₀ t k asleep₀ active₀ j₀ kept asleep active j = k - j
+μ-loop words totals kept₀ carrying t k asleep₀ active₀ j₀ kept asleep active j = k - j
 
 -- a net out of form
 unformed : (net : Net) (b : Bool) (states : States) (kept : List ℕ) → b ≡ false → wellFormed net ≡ false → Surveyed net b states kept
 unformed net b states kept e f = record { form = e ∙ sym f; states-are = λ t. clash t e; sends-are = λ t. clash t e }
 
 -- past the test of what the net was opened with
-abbrev netOf : tie.Else1 Inv-loop μ-loop → Net
-netOf c = netIn (c .before .before .before .args .net .now)
+abbrev netOf : tie.Else2 Inv-loop μ-loop → Net
+netOf c = let a = c .before .before .before .before .before .args in netIn (a .net .now) (a .totals .now)
 
-told : (c : tie.Else1 Inv-loop μ-loop) → c .before .before .config-in .result ≡ netOf c .config
+told : (c : tie.Else2 Inv-loop μ-loop) → c .before .before .config-in .result ≡ netOf c .config
 told c = c .before .before .config-in .ensures
 
-same-k : (c : tie.Else1 Inv-loop μ-loop) → c .before .before .config-in .result .k ≡ netOf c .config .k
+same-k : (c : tie.Else2 Inv-loop μ-loop) → c .before .before .config-in .result .k ≡ netOf c .config .k
 same-k c = ap (λ (t : Config). t .k) (told c)
 
-opened : (c : tie.Else1 Inv-loop μ-loop) → valid (netOf c .config) ≡ true
-opened c = ap valid (sym (told c)) ∙ sym (c .before .is-valid .ensures) ∙ not-false _ (c .if1 .left)
+opened : (c : tie.Else2 Inv-loop μ-loop) → valid (netOf c .config) ≡ true
+opened c = ap valid (sym (told c)) ∙ sym (c .before .is-valid .ensures) ∙ not-false _ (c .if2 .left)
 
 -- the station that a turn reads
 low : (c : tie.After-load Inv-loop μ-loop) → c .before .before .loop .j < 64
@@ -72,13 +67,22 @@ low c =
     omega (arith, valid-k _ (opened first) .1, same-k first, c .before .loop-test .taken)
 
 read : (c : tie.After-load Inv-loop μ-loop) → c .load .result ≡ station (netOf (c .before .before .before)) (c .before .before .loop .j)
-read c = c .load .ensures ∙ station-read (c .before .before .before .before .before .before .args .net .now) (c .before .before .loop .j) (low c)
+read c = c .load .ensures ∙ station-read (c .before .before .before .before .before .before .before .before .args .net .now) (c .before .before .loop .j) (low c)
 
-form-told : (c : tie.After-is-well-formed Inv-loop μ-loop)
-    → c .is-well-formed .result ≡ isFormed (netOf (c .before .before .before .before)) (c .before .before .before .loop .j)
+-- the flag is one of the two
+flag-told : (c : tie.Else1 Inv-loop μ-loop) → netIn (c .before .before .args .net .now) (c .before .before .args .totals .now) .carrying ≤ 1
+flag-told c = omega (arith, c .if1 .left, c .before .carrying-in .ensures)
+
+form-told : (c : tie.Joined3 Inv-loop μ-loop)
+    → c .if3 .placed ≡ placed (netOf (c .before .before .before .before)) (c .before .before .before .loop .j)
 form-told c =
-    c .is-well-formed .ensures
-    ∙ ap₂ (λ (t : Config) (s : Station). form.wellFormed t (c .before .before .before .loop .j) s) (told (c .before .before .before .before)) (read (c .before))
+    let first = c .before .before .before .before in
+    let start = first .before .before .before .before .before in
+    by-sum (c .if3 .came)
+    (λ b. rw (eq-eqb _ 1 (b .0 .taken)) (b .2 ∙ b .1 .ensures))
+    (λ b. rw (ne-eqb _ 1 (b .0 .left)) (b .2 ∙ b .1 .ensures))
+    ∙ place-read (start .args .net .now) (start .args .totals .now) (c .before .before .before .loop .j) (low (c .before))
+    (first .before .before .before .before .carrying-in .ensures) (told first) (c .before .load .ensures)
 
 -- a turn adds station j to the set of its state
 asleep-next : (c : tie.After-bit-if Inv-loop μ-loop) → let at = c .before .before .before .before .before .before in
@@ -95,43 +99,58 @@ active-next c =
     let l = loaded .before .before .loop in
     set-next _ (l .j) (low loaded) (l .inv .3) (c .bit-if2 .ensures ∙ ap (λ (s : Station). bitIf (eqb (s .state) events.active) (l .j)) (read loaded))
 
+carrying-in-requires : tie.Need-carrying-in-requires Inv-loop μ-loop
+carrying-in-requires c κs = search needs
+
+unformed-requires : tie.Need-unformed-requires Inv-loop μ-loop
+unformed-requires c κs = search needs
+
+returns : tie.Need-returns Inv-loop μ-loop
+returns c =
+    let start = c .before .before .before in
+    let above : 1 < netIn (start .args .net .now) (start .args .totals .now) .carrying = omega (arith, c .before .if1 .taken, c .before .before .carrying-in .ensures) in
+    unformed _ _ _ _ (c .unformed .ensures) (unformed-flag _ above)
+
 config-in-requires : tie.Need-config-in-requires Inv-loop μ-loop
 config-in-requires c κs = search needs
 
 is-valid-requires : tie.Need-is-valid-requires Inv-loop μ-loop
 is-valid-requires c κs = search needs
 
-unformed-requires : tie.Need-unformed-requires Inv-loop μ-loop
-unformed-requires c κs = search needs
-
-returns : tie.Need-returns Inv-loop μ-loop
-unfolding wellFormed areWellFormed
-returns c =
-    let barred = ap valid (sym (c .before .before .before .config-in .ensures)) ∙ sym (c .before .before .is-valid .ensures) ∙ not-true _ (c .before .if1 .taken) in
-    unformed _ _ _ _ (c .unformed .ensures) (rw barred)
-
-loop-holds : tie.Need-loop-holds Inv-loop μ-loop
-unfolding allBelow setOf
-loop-holds c = (omega arith, refl, refl, refl, kept-none _ (c .before .before .before .pre))
-
-load-requires : tie.Need-load-requires Inv-loop μ-loop
-load-requires c κs = search needs
-
-is-well-formed-requires : tie.Need-is-well-formed-requires Inv-loop μ-loop
-is-well-formed-requires c κs = search needs
-
 unformed-requires-2 : tie.Need-unformed-requires-2 Inv-loop μ-loop
 unformed-requires-2 c κs = search needs
 
 returns-2 : tie.Need-returns-2 Inv-loop μ-loop
-unfolding wellFormed areWellFormed
 returns-2 c =
+    let past = c .before .before .before .before in
+    let barred = ap valid (sym (c .before .before .before .config-in .ensures)) ∙ sym (c .before .before .is-valid .ensures) ∙ not-true _ (c .before .if2 .taken) in
+    unformed _ _ _ _ (c .unformed2 .ensures) (barred-config _ (flag-told past) barred)
+
+loop-holds : tie.Need-loop-holds Inv-loop μ-loop
+unfolding allBelow setOf
+loop-holds c = (omega arith, refl, refl, refl, kept-none _ (c .before .before .before .before .before .pre))
+
+load-requires : tie.Need-load-requires Inv-loop μ-loop
+load-requires c κs = search needs
+
+is-carrying-place-requires : tie.Need-is-carrying-place-requires Inv-loop μ-loop
+is-carrying-place-requires c κs = search needs
+
+is-well-formed-requires : tie.Need-is-well-formed-requires Inv-loop μ-loop
+is-well-formed-requires c κs = search needs
+
+unformed-requires-3 : tie.Need-unformed-requires-3 Inv-loop μ-loop
+unformed-requires-3 c κs = search needs
+
+returns-3 : tie.Need-returns-3 Inv-loop μ-loop
+returns-3 c =
     let loaded = c .before .before .before in
+    let first = loaded .before .before .before in
     let l = loaded .before .before .loop in
-    let net = netOf (loaded .before .before .before) in
-    let broken = sym (form-told (c .before .before)) ∙ not-true _ (c .before .if2 .taken) in
-    let inside : l .j < net .config .k = omega (arith, loaded .before .loop-test .taken, same-k (loaded .before .before .before)) in
-    unformed _ _ _ _ (c .unformed2 .ensures) (simp (all-below-fails (isFormed net) (net .config .k) (l .j) inside broken, and-false))
+    let net = netOf first in
+    let broken = sym (form-told (c .before .before)) ∙ not-true _ (c .before .if4 .taken) in
+    let inside : l .j < net .config .k = omega (arith, loaded .before .loop-test .taken, same-k first) in
+    unformed _ _ _ _ (c .unformed3 .ensures) (barred-place net (flag-told (first .before .before .before)) (l .j) inside broken)
 
 bit-if-requires : tie.Need-bit-if-requires Inv-loop μ-loop
 bit-if-requires c κs = search needs
@@ -164,7 +183,7 @@ loop-again c =
     let first = loaded .before .before .before in
     let tested = c .before .before .before .before .before .before .before in (
       omega arith,
-      rw (all-below-more _ (l .j), l .inv .1, sym (form-told (tested .before)) ∙ not-false _ (tested .if2 .left)),
+      rw (all-below-more _ (l .j), l .inv .1, sym (form-told (tested .before)) ∙ not-false _ (tested .if4 .left)),
       asleep-next (c .before .before .before .before .before) .0,
       active-next (c .before .before .before) .0,
       subst (AreSends (netOf first) (l .j + 1)) (sym (c .keep .ensures))
@@ -172,14 +191,14 @@ loop-again c =
           (c .before .before .find-sends .ensures ∙ ap₂ (λ (t : Config) (s : Station). sendsOf t (l .j) s) (told first) (read loaded))),
     )
 
-returns-3 : tie.Need-returns-3 Inv-loop μ-loop
-unfolding wellFormed areWellFormed inState
-returns-3 c =
+returns-4 : tie.Need-returns-4 Inv-loop μ-loop
+unfolding inState
+returns-4 c =
     let first = c .before .before in
     let all : c .before .loop .j ≡ netOf first .config .k = omega (arith, same-k first) in
     let inv = rw all at (c .before .loop .inv) in
     record {
-      form = rw (opened first) (sym (inv .1));
+      form = sym (all-placed (netOf first) (flag-told (first .before .before .before)) (opened first) (inv .1));
       states-are = λ e. ap₂ (λ (asleep active : ℕ). record { asleep = asleep; active = active }) (inv .2) (inv .3);
       sends-are = λ e. inv .4;
     }
@@ -190,15 +209,19 @@ survey-spec =
     (tie.spec
     Inv-loop
     μ-loop
-    config-in-requires
-    is-valid-requires
+    carrying-in-requires
     unformed-requires
     returns
-    loop-holds
-    load-requires
-    is-well-formed-requires
+    config-in-requires
+    is-valid-requires
     unformed-requires-2
     returns-2
+    loop-holds
+    load-requires
+    is-carrying-place-requires
+    is-well-formed-requires
+    unformed-requires-3
+    returns-3
     bit-if-requires
     add-asleep
     bit-if-requires-2
@@ -208,4 +231,4 @@ survey-spec =
     add-j
     loop-less
     loop-again
-    returns-3)
+    returns-4)

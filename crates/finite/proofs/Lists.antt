@@ -1,0 +1,36 @@
+-- Lists whose entries are replaced or mapped. Assumes nothing.
+use mathlib.Core.Path.{_≡_, refl, ap, ap₂, _∙_}
+use mathlib.Core.List.{List, [], _∷_, _++_, map}
+use Prim.Native.Nat.{ℕ, zero, suc}
+use lib.ListN.{getD, set}
+use Rattle.finite.specs.Below.{tabulate, each}
+
+pub map-set : {A B : Type 0} (f : A → B) (l : List A) (i : ℕ) (v : A) → map f (set l i v) ≡ set (map f l) i (f v)
+map-set f [] i v = refl
+map-set f (x ∷ l) zero v = refl
+map-set {B = B} f (x ∷ l) (suc i) v = ap (λ (m : List B). f x ∷ m) (map-set f l i v)
+
+-- an entry that is replaced by itself
+pub set-own : {A : Type 0} (l : List A) (i : ℕ) (d : A) → set l i (getD l i d) ≡ l
+set-own [] i d = refl
+set-own (x ∷ l) zero d = refl
+set-own {A = A} (x ∷ l) (suc i) d = ap (λ (m : List A). x ∷ m) (set-own l i d)
+
+-- what holds of the new entry and of the old ones holds after the replacement
+pub set-either : {A : Type 0} (P : A → Type 0) (l : List A) (i x : ℕ) (v d : A) → (x ≡ i → P v) → P (getD l x d) → P (getD (set l i v) x d)
+set-either P [] i x v d new old = old
+set-either P (y ∷ l) zero zero v d new old = new refl
+set-either P (y ∷ l) zero (suc x) v d new old = old
+set-either P (y ∷ l) (suc i) zero v d new old = old
+set-either P (y ∷ l) (suc i) (suc x) v d new old = set-either P l i x v d (λ e. new (ap suc e)) old
+
+map-snoc : {A B : Type 0} (f : A → B) (l : List A) (a : A) → map f (l ++ (a ∷ [])) ≡ map f l ++ (f a ∷ [])
+map-snoc f [] a = refl
+map-snoc {B = B} f (x ∷ l) a = ap (λ (m : List B). f x ∷ m) (map-snoc f l a)
+
+-- a table that a map leaves as it is
+pub map-tabulate : {A : Type 0} (f : A → A) (h : ℕ → A) → ((i : ℕ) → f (h i) ≡ h i) → (n : ℕ) → map f (tabulate n h) ≡ tabulate n h
+unfolding tabulate each
+map-tabulate f h e zero = refl
+map-tabulate {A = A} f h e (suc n) =
+    map-snoc f (tabulate n h) (h n) ∙ ap₂ (λ (l : List A) (a : A). l ++ (a ∷ [])) (map-tabulate f h e n) (e n)
