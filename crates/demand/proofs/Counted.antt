@@ -12,9 +12,9 @@ use Rattle.finite.proofs.Cases.{by-bool}
 use Rattle.wave.specs.internal.Wave as wave
 use Rattle.wave.specs.internal.Claim.{same, times}
 use Rattle.schedule.specs.declared.Step.{Step}
-use Rattle.schedule.specs.Listing.{select, step}
+use Rattle.schedule.specs.Listing.{select, howMany, step}
 use Rattle.schedule.specs.internal.Labels.{labelOf}
-use Rattle.demand.specs.Kinds.{Kind, howMany, isReport, isMessage}
+use Rattle.demand.specs.Kinds.{Kind, isReport, isMessage}
 
 -- where a test on a step is one on its label, as many pass it
 times-passing : (label : Step → wave.Step) (t : wave.Step) (test : Step → Bool) → ((s : Step) → same t (label s) ≡ test s)

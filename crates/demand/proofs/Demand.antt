@@ -21,7 +21,7 @@ use Rattle.topology.proofs.Webs.{linked-back}
 use Rattle.linemap.specs.declared.Map.{Map}
 use Rattle.linemap.specs.Maps.{configOf, acceptance, totals}
 use Rattle.schedule.specs.declared.Step.{Step}
-use Rattle.schedule.specs.Listing.{select, step}
+use Rattle.schedule.specs.Listing.{select, howMany, step}
 use Rattle.schedule.specs.Calls.{Call}
 use Rattle.schedule.specs.internal.Labels.{labelOf}
 use Rattle.schedule.proofs.Listing.{Allowed}
@@ -40,7 +40,7 @@ use Rattle.order.proofs.Back.{claim-rest}
 use Rattle.order.proofs.RendezvousOrder.{rendezvous-order}
 use Rattle.order.proofs.RendezvousBack.{rendezvous-carried}
 use Rattle.order.proofs.MailboxOrder.{mailbox-order}
-use Rattle.demand.specs.Kinds.{Kind, meeting, carrying, mailing, howMany, isReport, desk, deskHeld, made, left, steps, reports}
+use Rattle.demand.specs.Kinds.{Kind, meeting, carrying, mailing, isReport, desk, deskHeld, made, left, steps, reports}
 use Rattle.demand.specs.Demand.{Holds, OnEveryMap, Demand}
 use Rattle.demand.proofs.Counted.{reports-counted, messages-counted, last-is-report}
 

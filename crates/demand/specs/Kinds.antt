@@ -4,7 +4,6 @@ use mathlib.Core.Bool.{Bool, true, false, not, _&&_}
 use mathlib.Core.List.{List}
 use Prim.Native.Nat.{ℕ}
 use lib.Dec.{eqb}
-use lib.ListN.{length}
 use Rattle.aggregate.specs.declared.Aggregate.{Aggregate}
 use Rattle.aggregate.specs.Aggregate.{rootOf}
 use Rattle.station.specs.declared.Station.{Station}
@@ -12,7 +11,7 @@ use Rattle.linemap.specs.declared.Map.{Map}
 use Rattle.linemap.specs.Maps.{configOf}
 use Rattle.schedule.specs.declared.Step.{Step}
 use Rattle.schedule.specs.Rules.{Rules}
-use Rattle.schedule.specs.Listing.{select, step}
+use Rattle.schedule.specs.Listing.{select, howMany, step}
 use Rattle.schedule.specs.Calls.{Call, callsMade, callsNet}
 use Rattle.rendezvous.specs.Net as rendezvous-net
 use Rattle.rendezvous.specs.Telling.{isTell}
@@ -67,10 +66,6 @@ mailing =
 -- "that desk" (document 02, request 5): the map's
 abbrev pub desk : Map → ℕ
 desk m = rootOf (configOf m)
-
--- how many steps of a list pass a test
-abbrev pub howMany : (Step → Bool) → List Step → ℕ
-howMany test steps = length (select test steps)
 
 module _ (K : Kind) where
   -- a report, by its kind

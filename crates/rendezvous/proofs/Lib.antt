@@ -9,6 +9,9 @@ pub mod Settled
 pub mod Laws
 pub mod Places
 pub mod FormAfter
+pub mod Exchange
+pub mod FarApartExamples
+pub mod FarApart
 pub mod Going
 pub mod Events
 pub mod Examples

@@ -12,6 +12,7 @@ ghost use Prim.Native.Nat.{ℕ, _≤_, _<_};
 ghost use lib.ListN.{replicate, set};
 ghost use lib.Dec.{eqb};
 ghost use Rattle.aggregate.specs.Aggregate.{rootOf, clipped};
+ghost use Rattle.station.specs.Events.{finished};
 ghost use Rattle.stations.specs.Words.{configIn};
 ghost use Rattle.stations.specs.Kept.{keptIn, keptRead};
 ghost use Rattle.rendezvous.specs.Net.{netIn, settled};
@@ -39,7 +40,7 @@ pub(crate) fn hear_total(s: Station) -> Station
 
 // Whether the desk, the step's sender s and its receiver r let a tell be made.
 pub(crate) fn may_tell(t: Config, step: Step, desk: Station, s: Station, r: Station) -> bool
-    ensures { λ b. ⌜ b ≡ mayTellOf t (step .sender) (step .receiver) desk s r ⌝ }
+    ensures { λ b. ⌜ b ≡ mayTellOf t (step .sender) (step .receiver) (eqb (desk .state) finished) s r ⌝ }
 {
     let root = aggregate::root(t);
     let reported = desk.state == FINISHED;

@@ -21,6 +21,7 @@ use Rattle.schedule.specs.Draws.{stepOn, picked, drawFrom, drawOn, runMa
 use Rattle.schedule.specs.Calls.{Call, single, draw, run, callMade, callNet, callsMade, callsNet}
 use Rattle.schedule.proofs.Listing.{range-bounds, listed-complete, listed-allowed}
 use Rattle.schedule.proofs.Answers.{allowed-parts}
+use Rattle.schedule.proofs.Outcomes.{step-allowed}
 
 getD-member : {A : Type 0} (l : List A) (n : ℕ) (d : A) → n < length l → List·Memᴰ (getD l n d) l
 getD-member [] n d h = absurd (let z : ⊥ = omega arith in z)
@@ -143,14 +144,19 @@ module _ {Net : Type 0} (R : Rules Net) where
   calls-make net (c ∷ cs) =
       makes-append net (callNet R net c) (callMade R net c) (callsMade R (callNet R net c) cs) _ (call-makes net c) (calls-make (callNet R net c) cs)
 
+  -- one list of calls after another leaves what the second leaves of the first's net
+  pub calls-append : (net : Net) (a b : List Call) → callsNet R net (a ++ b) ≡ callsNet R (callsNet R net a) b
+  unfolding callsNet
+  calls-append net [] b = refl
+  calls-append net (c ∷ a) b = calls-append (callNet R net c) a b
+
   -- listed steps, as single ones, are made and lead where they lead
   pub singles-make : (net : Net) (steps : List Step) → Runs Listed (R .apply) net steps
       → (callsMade R net (map single steps) ≡ steps) × (callsNet R net (map single steps) ≡ reached (R .apply) net steps)
-  unfolding callsMade callsNet callMade callNet stepOn
+  unfolding callsMade callsNet callMade callNet
   singles-make net [] r = (refl, refl)
   singles-make net (s ∷ steps) r =
-      let both = allowed-parts R net s (listed-allowed R net s (r .0 .1)) in
-      let one : stepOn R net s ≡ stepMade s (R .apply net s) = rw (r .0 .0, both .0, both .1) in
+      let one = step-allowed R net s (r .0 .0) (listed-allowed R net s (r .0 .1)) in
       let rest = singles-make (R .apply net s) steps (r .1) in (
         ap (λ (o : StepOutcome Net). o .made ++ callsMade R (o .net) (map single steps)) one ∙ ap (λ (l : List Step). s ∷ l) (rest .0),
         ap (λ (o : StepOutcome Net). callsNet R (o .net) (map single steps)) one ∙ rest .1,

@@ -15,10 +15,11 @@ use Rattle.refusal.specs.Refusal.{numberOf}
 use Rattle.refusal.specs.declared.Refusal.the-variants.{OutOfForm, OutOfRange, NotAllowed, NothingAllowed}
 use Rattle.schedule.specs.declared.Step.{Step}
 use Rattle.schedule.specs.declared.rows.Drawn.the-variants as drawn
-use Rattle.schedule.specs.Rules.{Rules, inRange}
+use Rattle.schedule.specs.Rules.{Rules, inRange, allowed}
 use Rattle.schedule.specs.Listing.{isEmpty, listed, quiescent}
 use Rattle.schedule.specs.Outcome.{stepMade, stepRefused, RunOutcome}
 use Rattle.schedule.specs.Draws.{stepOn, picked, drawOn, runMade, runNet, stopped, runOn}
+use Rattle.schedule.proofs.Answers.{allowed-parts}
 
 module _ {Net : Type 0} (R : Rules Net) where
   -- the outcomes of a single step
@@ -39,6 +40,9 @@ module _ {Net : Type 0} (R : Rules Net) where
       pub step-taken : inRange R net s ≡ true → R .guard net s ≡ true → stepOn R net s ≡ stepMade s (R .apply net s)
       unfolding stepOn
       step-taken r g = rw (f, r, g)
+
+      pub step-allowed : allowed R net s ≡ true → stepOn R net s ≡ stepMade s (R .apply net s)
+      step-allowed a = let both = allowed-parts R net s a in step-taken (both .0) (both .1)
 
   -- the outcomes of a draw
   module _ (net : Net) (d : ℕ) where

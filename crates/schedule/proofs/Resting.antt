@@ -25,8 +25,8 @@ use Rattle.schedule.specs.Calls.{Call, single, draw, run, callMade, call
 use Rattle.schedule.proofs.Listing.{Allowed, quiescent-at-rest}
 use Rattle.schedule.proofs.Parts.{entry-at}
 use Rattle.schedule.proofs.Picks.{picked-none, picked-entry}
-use Rattle.schedule.proofs.Answers.{allowed-parts, picked-allowed}
-use Rattle.schedule.proofs.Outcomes.{step-outside, step-barred, step-taken, draw-nothing, draw-picked}
+use Rattle.schedule.proofs.Answers.{picked-allowed}
+use Rattle.schedule.proofs.Outcomes.{step-outside, step-barred, step-allowed, draw-nothing, draw-picked}
 
 same-effect : {Net : Type 0} {o p : StepOutcome Net} → o ≡ p → (o .made ≡ p .made) × (o .net ≡ p .net)
 same-effect e = (ap (λ (o : StepOutcome _). o .made) e, ap (λ (o : StepOutcome _). o .net) e)
@@ -55,8 +55,7 @@ module _ {Net : Type 0} (R : Rules Net) where
         (λ z. rw (eq-eqb (length l) 0 z) (draw-nothing R net d formed (sym (picked-none l d z))))
         (λ some.
         let is : picked l d ≡ drawn.Step s = sym (picked-entry l d some) ∙ ap stepFound (entry-at l n (step 0 0 0) (mod-lt d (omega arith))) in
-        let both = allowed-parts R net s (picked-allowed R net s d is) in
-        rw (ne-eqb (length l) 0 some) (draw-picked R net d formed s is ∙ sym (step-taken R net s formed (both .0) (both .1))))
+        rw (ne-eqb (length l) 0 some) (draw-picked R net d formed s is ∙ sym (step-allowed R net s formed (picked-allowed R net s d is))))
 
     pub rest-refuses : AtRest (Allowed R) net ↔ ((s : Step) → stepOn R net s .number ≡ 0 → ⊥)
     rest-refuses = (

@@ -2,6 +2,7 @@
 use mathlib.Core.Bool.{Bool, true, false, cond}
 use mathlib.Core.List.{List, [], _∷_, map, flatMap}
 use Prim.Native.Nat.{ℕ, zero, suc, _-_}
+use lib.ListN.{length}
 use Rattle.schedule.specs.declared.Step.{Step}
 use Rattle.schedule.specs.Rules.{Rules, allowed}
 
@@ -18,6 +19,10 @@ range a b = numbersFrom a (b - a)
 unfoldable pub select : {A : Type 0} → (A → Bool) → List A → List A
 select p [] = []
 select p (a ∷ l) = cond (p a) (a ∷ select p l) (select p l)
+
+-- how many steps of a list pass a test
+abbrev pub howMany : (Step → Bool) → List Step → ℕ
+howMany test steps = length (select test steps)
 
 -- "A step has a kind, a sender and a receiver" (Stations that meet)
 abbrev pub step : ℕ → ℕ → ℕ → Step

@@ -32,7 +32,7 @@ use Rattle.linemap.specs.declared.Map.{Map}
 use Rattle.linemap.specs.Maps.{configOf, acceptance}
 use Rattle.schedule.specs.declared.Step.{Step}
 use Rattle.schedule.specs.Rules.{Rules}
-use Rattle.schedule.specs.Listing.{select, step}
+use Rattle.schedule.specs.Listing.{select, howMany, step}
 use Rattle.schedule.specs.Calls.{Call, single}
 use Rattle.schedule.specs.internal.Labels.{labelOf}
 use Rattle.schedule.proofs.Listing.{Allowed}
@@ -43,7 +43,7 @@ use Rattle.order.proofs.Kind.{Ties, nets, runs-allowed}
 use Rattle.order.proofs.Local.{stateOf}
 use Rattle.order.proofs.Stations.{line}
 use Rattle.order.proofs.Maps.{web-of, chosen-joined, class-held}
-use Rattle.demand.specs.Kinds.{Kind, howMany, isReport, desk, deskHeld, made, left, steps, reports}
+use Rattle.demand.specs.Kinds.{Kind, isReport, desk, deskHeld, made, left, steps, reports}
 use Rattle.demand.proofs.Counted.{reports-counted}
 use Rattle.demand.proofs.Demand.{Whole}
 use Rattle.tree.specs.Tree.{Answers, after, parentOf, leadsThrough, treeTotals, Behind}

@@ -684,6 +684,36 @@ pub fn tells(subject: &(impl NetCalls<Back> + NetCalls<Meet>)) {
     assert_eq!(subject.step(&mut net, tell), Err(Cause::OutOfRange.alone()));
 }
 
+/// Steps far apart: on a line of five, the desk in its middle, its neighbours wake the ends in either order. Not so where they
+/// name a common station: whoever wakes station 2 of the triangle first is its parent, and the other is refused. Nor where
+/// one leaves the form, as a tell to a station that still waits does.
+pub fn apart(subject: &(impl NetCalls<Back> + NetCalls<Meet>)) {
+    let wake = |sender, receiver| Step { kind: WAKE, sender, receiver };
+    let line = map_of(1, &[([1], 6), ([2], 9), ([3], 17), ([4], 2), ([5], 4)]);
+    let [mut one, mut other]: [Back; 2] = [fresh(subject, &line), fresh(subject, &line)];
+    for step in [wake(0, 1), wake(0, 2), wake(1, 3), wake(2, 4)] {
+        assert_eq!(subject.step(&mut one, step), Ok(step));
+    }
+    for step in [wake(0, 1), wake(0, 2), wake(2, 4), wake(1, 3)] {
+        assert_eq!(subject.step(&mut other, step), Ok(step));
+    }
+    assert!(one == other, "the ends are woken in either order");
+    for (first, second, parent) in [(wake(0, 2), wake(1, 2), 0), (wake(1, 2), wake(0, 2), 1)] {
+        let mut net: Meet = fresh(subject, &triangle());
+        assert_eq!(subject.step(&mut net, wake(0, 1)), Ok(wake(0, 1)));
+        assert_eq!(subject.step(&mut net, first), Ok(first));
+        assert_eq!(subject.step(&mut net, second), Err(Cause::NotAllowed.alone()));
+        assert_eq!(net.stations[2].parent, parent);
+    }
+    let mut net: Back = fresh(subject, &line);
+    assert!(subject.run(&mut net, &[0; 10]).refusal.is_none());
+    net.0.stations[2].waits = 1;
+    let [waiting, far] = [[0, 2], [1, 3]].map(|[sender, receiver]| Step { kind: TELL, sender, receiver });
+    assert_eq!(subject.step(&mut net.clone(), far), Ok(far));
+    assert_eq!(subject.step(&mut net, waiting), Ok(waiting));
+    assert_eq!(subject.step(&mut net, far), Err(Cause::OutOfForm.alone()));
+}
+
 /// The triangle with the desk at station 1.
 const DESK_AT_1_OUTPUT: &str = "\
 wake 1 0

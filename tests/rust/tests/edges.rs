@@ -1,4 +1,4 @@
-//! Document 01's examples on the model, those marked * too, and the edges of document 02, requests 1, 2 and 7.
+//! Document 01's examples on the model, those marked * too, and the edges of document 02, requests 1, 2, 7, 8 and 9.
 
 use conformance::calls::Model;
 use conformance::edges;
@@ -25,6 +25,11 @@ fn stations_that_meet() {
 #[test]
 fn totals_carried_back() {
     edges::tells(&Model);
+}
+
+#[test]
+fn steps_far_apart() {
+    edges::apart(&Model);
 }
 
 #[test]

@@ -2,7 +2,7 @@
 //! and their cases must meet every refusal.
 
 use conformance::calls::Model;
-use conformance::compare::{map, net, program, sheet, station, tree};
+use conformance::compare::{apart, map, net, program, sheet, station, tree};
 use conformance::edges;
 use conformance::gen::aggregate;
 use conformance::gen::net::any;
@@ -47,6 +47,12 @@ fn parents_say_what_went_up() {
     tree::waves::<Meet>(&Model, 300);
     tree::waves::<Mail>(&Model, 300);
     tree::lines(|input| output(input).into_bytes(), 300);
+}
+
+#[test]
+fn steps_far_apart_change_places() {
+    apart::law::<Meet>(&Model, 2_000, 200);
+    apart::law::<Back>(&Model, 2_000, 200);
 }
 
 #[test]

@@ -65,10 +65,9 @@ abbrev pub placeFormed : ℕ → Config → ℕ → Station → Aggregate → Bo
 placeFormed carrying t i s v =
     cond (eqb carrying 1) (form.wellFormed t i (settled s) && (toldWell t i s && bounded t v)) (form.wellFormed t i s)
 
--- the condition of a tell, over the desk and its two stations
-abbrev pub mayTellOf : Config → ℕ → ℕ → Station → Station → Station → Bool
-mayTellOf t j i desk s r =
-    let reported = eqb (desk .state) finished in
+-- the condition of a tell, over whether the desk has reported, and its two stations
+abbrev pub mayTellOf : Config → ℕ → ℕ → Bool → Station → Station → Bool
+mayTellOf t j i reported s r =
     reported && cond (eqb j (rootOf t)) reported (eqb (s .state) told) && eqb (r .state) finished && not (eqb i (rootOf t)) && eqb (r .parent) j
 
 -- station p, if it is below k, may tell i, and no other

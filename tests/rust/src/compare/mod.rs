@@ -1,5 +1,6 @@
 //! Comparison of a subject (the proved library, or anything else that answers the same calls) with the model.
 
+pub mod apart;
 pub mod map;
 pub mod net;
 pub mod program;

@@ -2,6 +2,7 @@
 //! tree behind a total.
 
 pub mod aggregate;
+pub mod apart;
 pub mod demand;
 pub mod mail;
 pub mod map;

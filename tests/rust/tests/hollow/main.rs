@@ -1,7 +1,8 @@
 //! The tests' own tests: document 01's hollow programs and wrong turns, those of missing readings, of classes, of lots,
-//! of desks, of words, of sheets and of totals carried back, must not pass. Each is the model of a station, of maps, of a
-//! kind of net or of sheets with one fault.
+//! of desks, of words, of sheets, of totals carried back and of steps far apart, must not pass. Each is the model of a
+//! station, of maps, of a kind of net or of sheets with one fault.
 
+mod apart;
 mod back;
 mod classes;
 mod desk;

@@ -1,9 +1,11 @@
 -- `rendezvous::figure::is_allowed` meets its contract: by the kind, of the stations that the words hold. Assumes nothing.
 use mathlib.Core.Path.{_≡_, ap, _∙_}
+use lib.Dec.{eqb}
 use borrow.Author.Tests.{ne-eqb}
 use Rattle.aggregate.specs.declared.Config.{Config}
 use Rattle.aggregate.specs.Aggregate.{rootOf}
 use Rattle.station.specs.declared.Station.{Station}
+use Rattle.station.specs.Events.{finished}
 use Rattle.stations.specs.Stations.{stationAt}
 use Rattle.stations.specs.Words.{configIn, stationsIn, stationRead}
 use Rattle.stations.proofs.Words.{station-read}
@@ -17,7 +19,7 @@ use Rattle.rendezvous.proofs.figure.is_allowed.Tie as tie
 
 -- what the code reads is what the words hold
 same-tell : (s : Step) {t u : Config} {d e x v y w : Station} → t ≡ u → d ≡ e → x ≡ v → y ≡ w
-    → mayTellOf t (s .sender) (s .receiver) d x y ≡ mayTellOf u (s .sender) (s .receiver) e v w
+    → mayTellOf t (s .sender) (s .receiver) (eqb (d .state) finished) x y ≡ mayTellOf u (s .sender) (s .receiver) (eqb (e .state) finished) v w
 same-tell s e f g h = rw (e, f, g, h)
 
 same-step : (s : Step) {t u : Config} {x v y w : Station} → t ≡ u → x ≡ v → y ≡ w
