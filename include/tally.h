@@ -28,7 +28,7 @@ enum { TALLY_STATIONS = 64, TALLY_CLASSES = 8 };
 /* Bytes of stack that no call takes more than, its arguments included: events of a station, calls on maps, on stations that meet, for a
    sheet, and on stations with mail. */
 enum {
-    TALLY_PROCESS_STACK = 1024,
+    TALLY_PROCESS_STACK = 1280,
     TALLY_MAP_STACK = 16384,
     TALLY_RENDEZVOUS_STACK = 8192,
     TALLY_SHEET_STACK = 16384,
@@ -37,10 +37,16 @@ enum {
 
 /* ---- one station --------------------------------------------------------------------------------------------------------------------
 
-   What a station has gathered, class by class: a sum of counts, and how many readings were missing. A count gathers a sum of itself and
-   none missing; TALLY_NO_READING gathers a sum of 0 and one missing. How many classes are in use, 1 to TALLY_CLASSES, is said by the record
-   or the net that the station stands in. In form are, in these, sums below 2^62 and missing numbers up to TALLY_MOST_MISSING. What stands
-   past them is not looked at, and every event and step leaves it as it was. */
+   What a station has gathered, class by class: counts joined to a sum, and how many readings were missing. The record or the net that the station
+   stands in says how many classes are in use, 1 to TALLY_CLASSES, and the way in which counts are joined:
+       TALLY_SUM        a count gathers a sum of itself, and sums are added;
+       TALLY_GREATEST   a count gathers itself, and of two the greater is kept; TALLY_NONE stands for no reading, and gives way to a count;
+       TALLY_LEAST      as TALLY_GREATEST, with the lesser;
+       TALLY_READINGS   a count gathers 1, and these are added: how many stations have a reading.
+   TALLY_NO_READING gathers one missing, and a sum of 0, or TALLY_NONE under TALLY_GREATEST and TALLY_LEAST; any other count gathers none missing.
+   Missing numbers are added whichever the way. In form are, in the classes in use, sums below 2^62, under TALLY_GREATEST and TALLY_LEAST
+   TALLY_NONE too, and missing numbers up to TALLY_MOST_MISSING. What stands past the classes is not looked at, and every event and step leaves it
+   as it was. */
 struct tally_aggregate {
     uint64_t sums[TALLY_CLASSES];
     uint8_t missing[TALLY_CLASSES];
@@ -48,6 +54,12 @@ struct tally_aggregate {
 
 /* The count of a head whose lamp failed. */
 #define TALLY_NO_READING ((uint32_t)4294967295)
+
+/* The ways of joining counts; any other is out of form (11), and out of range (12) for an opening. */
+enum { TALLY_SUM, TALLY_GREATEST, TALLY_LEAST, TALLY_READINGS };
+
+/* The greatest or the least of no readings. */
+#define TALLY_NONE UINT64_MAX
 
 enum { TALLY_MOST_MISSING = 64 };
 
@@ -63,11 +75,12 @@ struct tally_station {
     uint8_t state;
 };
 
-/* A station with its own number, its class count and the number of the desk, as a controller keeps it. */
+/* A station with its own number, its class count, the number of the desk and its way of joining counts, as a controller keeps it. */
 struct tally_process {
     uint8_t own;
     uint8_t classes;
     uint8_t desk;
+    uint8_t way;
     struct tally_station station;
 };
 
@@ -81,11 +94,12 @@ TALLY_ASSERT(offsetof(struct tally_station, state) == 82);
 TALLY_ASSERT(sizeof(struct tally_process) == 96);
 TALLY_ASSERT(offsetof(struct tally_process, classes) == 1);
 TALLY_ASSERT(offsetof(struct tally_process, desk) == 2);
+TALLY_ASSERT(offsetof(struct tally_process, way) == 3);
 TALLY_ASSERT(offsetof(struct tally_process, station) == 8);
 
-/* The events: 0, or 11 (station out of form, classes not 1 to TALLY_CLASSES, or desk not below TALLY_STATIONS), 12 (station number, or a sum
-   or missing number of a class in use, out of range), 13 (not allowed), which leave the record. An accepted event leaves the station
-   after it. */
+/* The events: 0, or 11 (station out of form, classes not 1 to TALLY_CLASSES, desk not below TALLY_STATIONS, or no such way), 12 (station number, or a
+   sum or missing number of a class in use, out of range, TALLY_NONE among it under TALLY_SUM and TALLY_READINGS), 13 (not allowed), which leave
+   the record. An accepted event leaves the station after it. */
 uint64_t tally_process_take_start(struct tally_process *p, uint8_t from);
 uint64_t tally_process_send_start(struct tally_process *p, uint8_t to);
 uint64_t tally_process_take_answer(struct tally_process *p, struct tally_aggregate v);
@@ -145,11 +159,12 @@ uint64_t tally_map_links(struct tally_map map);
 
 /* ---- stations that meet -------------------------------------------------------------------------------------------------------------
 
-   What a net is opened with: its numbers of stations and of classes, and its desk. */
+   What a net is opened with: its numbers of stations and of classes, its desk, and its way of joining counts. */
 struct tally_config {
     uint8_t k;
     uint8_t classes;
     uint8_t desk;
+    uint8_t way;
 };
 
 /* A net is lent in two parts. Its stations, and whether totals are carried back to them: 0 without, 1 with; another number is out of form. */
@@ -174,11 +189,12 @@ struct tally_run {
     uint64_t steps;
 };
 
-TALLY_ASSERT(sizeof(struct tally_config) == 3);
+TALLY_ASSERT(sizeof(struct tally_config) == 4);
 TALLY_ASSERT(offsetof(struct tally_config, classes) == 1);
 TALLY_ASSERT(offsetof(struct tally_config, desk) == 2);
+TALLY_ASSERT(offsetof(struct tally_config, way) == 3);
 TALLY_ASSERT(sizeof(struct tally_rendezvous) == 5640);
-TALLY_ASSERT(offsetof(struct tally_rendezvous, carrying) == 3);
+TALLY_ASSERT(offsetof(struct tally_rendezvous, carrying) == 4);
 TALLY_ASSERT(offsetof(struct tally_rendezvous, stations) == 8);
 TALLY_ASSERT(sizeof(struct tally_kept) == 4608);
 TALLY_ASSERT(sizeof(struct tally_run) == 16);
@@ -195,12 +211,12 @@ enum { TALLY_WAKE = 1, TALLY_PASS, TALLY_ANSWER, TALLY_REPORT, TALLY_TELL };
 #define TALLY_SENDER(answer) ((uint8_t)((answer) >> 16))
 #define TALLY_RECEIVER(answer) ((uint8_t)((answer) >> 24))
 
-/* Opens the fresh net of a map, for carrying back unless carrying is 0: 0, or 2, or 3, or 19, or 7 to 10 with the station, which leave *net and
-   *kept. Past k and past the classes it is zero. */
-uint64_t tally_rendezvous_fresh(struct tally_rendezvous *net, struct tally_kept *kept, struct tally_map map, uint8_t carrying);
+/* Opens the fresh net of a map, to join counts the way, and for carrying back unless carrying is 0: 0, or 2, or 3, or 19, or 7 to 10 with the
+   station, then 12 (no such way), which leave *net and *kept. Past k and past the classes it is zero. */
+uint64_t tally_rendezvous_fresh(struct tally_rendezvous *net, struct tally_kept *kept, struct tally_map map, uint8_t way, uint8_t carrying);
 
-/* One step: 0 with the step made (kind, sender, receiver), or 11 (classes not 1 to TALLY_CLASSES, or a desk not below k, among
-   it), 12, 13, which leave *net and *kept. */
+/* One step: 0 with the step made (kind, sender, receiver), or 11 (classes not 1 to TALLY_CLASSES, a desk not below k, or no such
+   way, among it), 12, 13, which leave *net and *kept. */
 uint64_t tally_rendezvous_step(struct tally_rendezvous *net, struct tally_kept *kept, uint8_t kind, uint8_t sender, uint8_t receiver);
 
 /* The step that draw d picks: 0 with the step made, or 11, or 14 (nothing allowed), which leave *net and *kept. */
@@ -225,8 +241,8 @@ enum { TALLY_SHEET_MOST = TALLY_SHEET_LINE * (1 + TALLY_STATIONS * TALLY_CLASSES
 TALLY_ASSERT(TALLY_SHEET_MOST == 21361);
 
 /* Lays the sheet of a map and its net out, from the first byte: 0 with the number of bytes filled, or the numbers of tally_map_write but 15 for
-   the map, 11 for the net, 20 (the net's k, class count or desk is not the map's), 21 (the desk is not finished, or a sum has more than 12 digits),
-   15 with the length needed, which leave the bytes. What stands past the sheet is left. */
+   the map, 11 for the net, 20 (the net's k, class count or desk is not the map's, or its way not TALLY_SUM), 21 (the desk is not finished, or a sum
+   has more than 12 digits), 15 with the length needed, which leave the bytes. What stands past the sheet is left. */
 uint64_t tally_sheet(struct tally_map map, const struct tally_rendezvous *net, const struct tally_kept *kept, uint8_t *bytes, size_t length);
 
 /* ---- stations with mail -------------------------------------------------------------------------------------------------------------
@@ -269,12 +285,13 @@ TALLY_ASSERT(offsetof(struct tally_mail, sums) == 33792);
 /* The kinds of step with mail. A report is from the desk to the desk. */
 enum { TALLY_DELIVERY = 1, TALLY_MAIL_REPORT };
 
-/* Opens the fresh net of a map: 0, or 2, or 3, or 19, or 7 to 10 with the station, which leave *line and *mail. All words are zero then, but
-   for the starts of the desk, which wait for its neighbours. */
-uint64_t tally_mailbox_fresh(struct tally_line *line, struct tally_mail *mail, struct tally_map map);
+/* Opens the fresh net of a map, to join counts the way: 0, or 2, or 3, or 19, or 7 to 10 with the station, then 12 (no such way), which leave
+   *line and *mail. All words are zero then, but for the starts of the desk, which wait for its neighbours. */
+uint64_t tally_mailbox_fresh(struct tally_line *line, struct tally_mail *mail, struct tally_map map, uint8_t way);
 
 /* A step, a draw and a run answer, and leave what they are lent, as those of stations that meet. An answer that waits with a sum of 2^62 or
-   more, or with a missing number above TALLY_MOST_MISSING, in a class in use, is out of form (11). */
+   more, but for TALLY_NONE under TALLY_GREATEST and TALLY_LEAST, or with a missing number above TALLY_MOST_MISSING, in a class in use, is out of form
+   (11). */
 uint64_t tally_mailbox_step(struct tally_line *line, struct tally_mail *mail, uint8_t kind, uint8_t sender, uint8_t receiver);
 uint64_t tally_mailbox_draw(struct tally_line *line, struct tally_mail *mail, uint16_t d);
 struct tally_run tally_mailbox_run(struct tally_line *line, struct tally_mail *mail, const uint16_t *draws, size_t count);

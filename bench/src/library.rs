@@ -5,6 +5,7 @@ use conformance::ffi::map::{self, tally_map_read, tally_map_write};
 use conformance::ffi::meet;
 use conformance::ffi::net::Exports;
 use conformance::ffi::sheet::tally_sheet;
+use conformance::model::aggregate::SUM;
 use conformance::model::map::Map;
 use conformance::model::net::{Net as Model, Step};
 use conformance::model::station::Station;
@@ -42,8 +43,8 @@ where
     M::Layout: Clone + Exports,
 {
     fn fresh(map: &Map) -> Net<M> {
-        let mut net: Net<M> = Net { layout: M::set_up(&Map::empty(1, 1, 0)).lay_out() };
-        net.layout.fresh(map.lay_out()).done().expect("the map is accepted");
+        let mut net: Net<M> = Net { layout: M::set_up(&Map::empty(1, 1, 0), SUM).lay_out() };
+        net.layout.fresh(map.lay_out(), SUM).done().expect("the map is accepted");
         net
     }
 

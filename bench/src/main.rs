@@ -7,6 +7,7 @@ mod timing;
 
 use conformance::ffi::lending::LaidOut;
 use conformance::ffi::net::Exports;
+use conformance::model::aggregate::SUM;
 use conformance::model::map::{stored, Map};
 use conformance::model::meet::{Back, Meet};
 use conformance::model::net::{Net as Model, Step};
@@ -235,7 +236,7 @@ where
 
 /// The steps that draws pick, from the model.
 fn steps_of<M: Model>(map: &Map, draws: &[u16]) -> Vec<Step> {
-    let mut net = M::set_up(map);
+    let mut net = M::set_up(map, SUM);
     draws.iter().map(|&draw| net.draw(draw).expect("a step is allowed")).collect()
 }
 

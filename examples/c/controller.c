@@ -79,6 +79,7 @@ int main(void)
         .own = 1,
         .classes = CLASSES,
         .desk = 0,
+        .way = TALLY_SUM,
         .station = {.held = gather(own), .unstarted = 1u << 0 | 1u << 2, .parent = 0, .waits = 2, .state = TALLY_ASLEEP},
     };
     const struct frame inbox[] = {

@@ -62,7 +62,7 @@ static void run(struct tally_map map)
     static const uint16_t draws[] = {0, 1, 0, 0, 0, 0, 0, 0, 0};
     struct tally_rendezvous net;
 
-    tally_rendezvous_fresh(&net, &kept, map, 0);
+    tally_rendezvous_fresh(&net, &kept, map, TALLY_SUM, 0);
     struct tally_run run = tally_rendezvous_run(&net, &kept, draws, sizeof draws / sizeof draws[0]);
     printf("run: steps %" PRIu64 ", at rest %" PRIu64 ", station 2 hung on %u, reported", run.steps, TALLY_VALUE(run.answer),
            net.stations[2].parent);
@@ -83,7 +83,7 @@ int main(void)
         return 1;
     uint64_t links = TALLY_VALUE(tally_map_links(map));
 
-    tally_rendezvous_fresh(&net, &kept, map, 0); /* a map that was read is accepted */
+    tally_rendezvous_fresh(&net, &kept, map, TALLY_SUM, 0); /* a map that was read is accepted */
     unsigned steps = draw_by_draw(&net);
     printf("lot %" PRIu64 " steps %u links %" PRIu64 "\n", map.lot, steps, links);
 

@@ -22,7 +22,7 @@ int main(void)
     struct tally_rendezvous net;
     struct tally_kept kept;
 
-    if (TALLY_NUMBER(tally_rendezvous_fresh(&net, &kept, map, 1)) != 0)
+    if (TALLY_NUMBER(tally_rendezvous_fresh(&net, &kept, map, TALLY_SUM, 1)) != 0)
         return 1;
     for (unsigned i = 0; i < sizeof draws / sizeof draws[0]; i++) {
         uint64_t answer = tally_rendezvous_draw(&net, &kept, draws[i]);

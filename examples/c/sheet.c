@@ -18,7 +18,7 @@ int main(void)
     struct tally_rendezvous net;
     struct tally_kept kept; /* what is told of the total: nothing, as it is not carried back */
 
-    if (TALLY_NUMBER(tally_rendezvous_fresh(&net, &kept, map, 0)) != 0)
+    if (TALLY_NUMBER(tally_rendezvous_fresh(&net, &kept, map, TALLY_SUM, 0)) != 0)
         return 1;
     printf("before the report: refused %u\n", TALLY_NUMBER(tally_sheet(map, &net, &kept, sheet, sizeof sheet)));
     tally_rendezvous_run(&net, &kept, draws, sizeof draws / sizeof draws[0]);

@@ -2,7 +2,7 @@
 #include "tally.h"
 #include "tally.h"
 
-static struct tally_process asleep = {0, 1, 0, {{{0}, {0}}, 0, 0, 0, TALLY_ASLEEP}};
+static struct tally_process asleep = {0, 1, 0, TALLY_SUM, {{{0}, {0}}, 0, 0, 0, TALLY_ASLEEP}};
 static struct tally_mail mail;
 
 static int answers_come_apart(void)

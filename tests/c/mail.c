@@ -64,7 +64,7 @@ static void refusals(struct net *net)
 {
     struct tally_map one_way = triangle;
     one_way.neighbours[0] = 4;
-    CHECK(tally_mailbox_fresh(&net->line, &net->mail, one_way) == 9 + 256 * 1);
+    CHECK(tally_mailbox_fresh(&net->line, &net->mail, one_way, TALLY_SUM) == 9 + 256 * 1);
     CHECK(tally_mailbox_step(&net->line, &net->mail, 0, 0, 1) == 12);
     CHECK(tally_mailbox_step(&net->line, &net->mail, TALLY_MAIL_REPORT + 1, 0, 1) == 12);
     CHECK(tally_mailbox_step(&net->line, &net->mail, TALLY_MAIL_REPORT, 0, 1) == 12);
@@ -140,7 +140,7 @@ static void posts(struct net net)
 /* Station 1 has no reading. Where an answer takes it out of form it hands that on; a single step is accepted, a run stops with 11. */
 static void missing(struct net net)
 {
-    CHECK(tally_mailbox_fresh(&net.line, &net.mail, lamp_failed) == 0);
+    CHECK(tally_mailbox_fresh(&net.line, &net.mail, lamp_failed, TALLY_SUM) == 0);
     CHECK(is(&net.line.stations[1], held(0, 1), 5, 0, 2, TALLY_ASLEEP));
     struct net full = net;
     CHECK(run(&net, 7).answer == 256);
@@ -163,7 +163,7 @@ static void missing(struct net net)
    out of form by its second class, and not by a third. */
 static void classes(struct net net)
 {
-    CHECK(tally_mailbox_fresh(&net.line, &net.mail, two_classes) == 0);
+    CHECK(tally_mailbox_fresh(&net.line, &net.mail, two_classes, TALLY_SUM) == 0);
     net.line.stations[1].held.sums[2] = net.mail.sums[2][1][0] = too_much;
     net.line.stations[1].held.missing[2] = 255;
     net.mail.missing[1][0] = idle;
@@ -187,13 +187,35 @@ static void classes(struct net net)
 /* The desk at station 2 has the first starts, and reports. */
 static void desks(struct net net)
 {
-    CHECK(tally_mailbox_fresh(&net.line, &net.mail, desk_at_2) == 0);
+    CHECK(tally_mailbox_fresh(&net.line, &net.mail, desk_at_2, TALLY_SUM) == 0);
     CHECK(starts_wait(&net.mail, 0, 0, 3) && is(&net.line.stations[0], held(5, 0), 6, 2, 2, TALLY_ASLEEP));
     CHECK(tally_mailbox_step(&net.line, &net.mail, TALLY_MAIL_REPORT, 0, 0) == 12);
     CHECK(run(&net, 6).answer == 0);
     CHECK(made(draw(&net, 0), TALLY_MAIL_REPORT, 2, 2));
     CHECK(is(&net.line.stations[2], held(23, 0), 3, 2, 0, TALLY_FINISHED));
     net.line.config.desk = 64;
+    CHECK(deliver(&net, 0, 1) == 11 && draw(&net, 0) == 11 && run(&net, 1).answer == 11);
+}
+
+/* Where station 1 has no reading, joined each way; an answer that brings TALLY_NONE is out of form under the sum and the number; a way that there is
+   none of is refused. */
+static void ways(struct net net)
+{
+    static const uint64_t due[4] = {16, 11, 5, 2};
+    for (uint8_t way = TALLY_SUM; way <= TALLY_READINGS; way++) {
+        CHECK(tally_mailbox_fresh(&net.line, &net.mail, lamp_failed, way) == 0 && net.line.config.way == way);
+        CHECK(run(&net, 7).steps == 7);
+        CHECK(net.line.stations[0].held.sums[0] == due[way] && net.line.stations[0].held.missing[0] == 1);
+        CHECK(tally_mailbox_fresh(&net.line, &net.mail, lamp_failed, way) == 0);
+        net.mail.answers[2] = 1;
+        net.mail.sums[0][2][0] = TALLY_NONE;
+        net.mail.missing[2][0] = 1;
+        const int has_none = way == TALLY_GREATEST || way == TALLY_LEAST;
+        CHECK(TALLY_NUMBER(deliver(&net, 2, 0)) == (has_none ? 0 : 11));
+        CHECK(net.line.stations[0].held.sums[0] == (way == TALLY_READINGS ? 1 : 5) && net.line.stations[0].held.missing[0] == has_none);
+    }
+    CHECK(tally_mailbox_fresh(&net.line, &net.mail, triangle, 4) == 12 && net.line.config.way == TALLY_READINGS);
+    net.line.config.way = 4;
     CHECK(deliver(&net, 0, 1) == 11 && draw(&net, 0) == 11 && run(&net, 1).answer == 11);
 }
 
@@ -214,7 +236,7 @@ static void strays(struct net net)
     due.starts[1] |= 4;
     CHECK(delivered(draw(&net, 0), 0, 1));
     CHECK(same_mail(&net.mail, &due));
-    CHECK(tally_mailbox_fresh(&net.line, &net.mail, triangle) == 0);
+    CHECK(tally_mailbox_fresh(&net.line, &net.mail, triangle, TALLY_SUM) == 0);
     CHECK(is_fresh(&net));
 }
 
@@ -251,7 +273,7 @@ int main(void)
 {
     static struct net net;
     memset(&net, 0xa5, sizeof net);
-    CHECK(tally_mailbox_fresh(&net.line, &net.mail, triangle) == 0);
+    CHECK(tally_mailbox_fresh(&net.line, &net.mail, triangle, TALLY_SUM) == 0);
     CHECK(is_fresh(&net));
     refusals(&net);
     out_of_form(net, too_much, 0);
@@ -262,6 +284,7 @@ int main(void)
     missing(net);
     classes(net);
     desks(net);
+    ways(net);
     strays(net);
     wave(&net);
     return 0;

@@ -10,7 +10,7 @@ static void refusals(struct tally_rendezvous *net)
 {
     struct tally_map apart = triangle;
     apart.neighbours[0] = 4;
-    CHECK(tally_rendezvous_fresh(net, &kept, apart, 0) == 9 + 256 * 1);
+    CHECK(tally_rendezvous_fresh(net, &kept, apart, TALLY_SUM, 0) == 9 + 256 * 1);
     CHECK(tally_rendezvous_step(net, &kept, TALLY_TELL, 0, 1) == 12);
     CHECK(tally_rendezvous_step(net, &kept, TALLY_WAKE, 0, 3) == 12);
     CHECK(tally_rendezvous_step(net, &kept, TALLY_REPORT, 0, 0) == 13);
@@ -36,7 +36,7 @@ static void missing(void)
 {
     static const uint16_t draws[7] = {0};
     struct tally_rendezvous net;
-    CHECK(tally_rendezvous_fresh(&net, &kept, lamp_failed, 0) == 0);
+    CHECK(tally_rendezvous_fresh(&net, &kept, lamp_failed, TALLY_SUM, 0) == 0);
     CHECK(is(&net.stations[1], held(0, 1), 5, 0, 2, TALLY_ASLEEP));
     struct tally_rendezvous full = net;
     CHECK(tally_rendezvous_run(&net, &kept, draws, 7).answer == 256);
@@ -55,7 +55,7 @@ static void classes(void)
 {
     static const uint16_t draws[7] = {0};
     struct tally_rendezvous net;
-    CHECK(tally_rendezvous_fresh(&net, &kept, two_classes, 0) == 0);
+    CHECK(tally_rendezvous_fresh(&net, &kept, two_classes, TALLY_SUM, 0) == 0);
     CHECK(is(&net.stations[1], both(held(7, 0), held(0, 1)), 5, 0, 2, TALLY_ASLEEP));
     for (unsigned i = 0; i < 3; i++) {
         net.stations[i].held.sums[2] = UINT64_MAX - i;
@@ -75,7 +75,7 @@ static void desks(void)
 {
     static const uint16_t draws[7] = {0};
     struct tally_rendezvous net;
-    CHECK(tally_rendezvous_fresh(&net, &kept, desk_at_2, 0) == 0 && net.config.desk == 2);
+    CHECK(tally_rendezvous_fresh(&net, &kept, desk_at_2, TALLY_SUM, 0) == 0 && net.config.desk == 2);
     CHECK(is(&net.stations[0], held(5, 0), 6, 2, 2, TALLY_ASLEEP) && is(&net.stations[2], held(11, 0), 3, 2, 2, TALLY_ACTIVE));
     CHECK(tally_rendezvous_step(&net, &kept, TALLY_REPORT, 0, 0) == 12 && tally_rendezvous_step(&net, &kept, TALLY_REPORT, 2, 2) == 13);
     CHECK(made(tally_rendezvous_draw(&net, &kept, 0), TALLY_WAKE, 2, 0));
@@ -85,10 +85,32 @@ static void desks(void)
 
     struct tally_map none = desk_at_2;
     none.desk = 3;
-    CHECK(tally_rendezvous_fresh(&net, &kept, none, 0) == 19 && net.config.desk == 2);
+    CHECK(tally_rendezvous_fresh(&net, &kept, none, TALLY_SUM, 0) == 19 && net.config.desk == 2);
     net.config.desk = 3;
     CHECK(tally_rendezvous_step(&net, &kept, TALLY_REPORT, 3, 3) == 11 && tally_rendezvous_draw(&net, &kept, 0) == 11);
     CHECK(tally_rendezvous_run(&net, &kept, draws, 1).answer == 11);
+}
+
+/* The triangle where station 1 has no reading, joined each way, told to all; a way that there is none of is refused, after the map's numbers. */
+static void ways(void)
+{
+    static const uint16_t draws[16] = {0};
+    static const uint64_t due[4] = {16, 11, 5, 2};
+    struct tally_rendezvous net;
+    for (uint8_t way = TALLY_SUM; way <= TALLY_READINGS; way++) {
+        CHECK(tally_rendezvous_fresh(&net, &kept, lamp_failed, way, 1) == 0 && net.config.way == way);
+        const int has_none = way == TALLY_GREATEST || way == TALLY_LEAST;
+        CHECK(net.stations[1].held.sums[0] == (has_none ? TALLY_NONE : 0) && net.stations[1].held.missing[0] == 1);
+        CHECK(tally_rendezvous_run(&net, &kept, draws, 16).steps == 9);
+        CHECK(net.stations[0].held.sums[0] == due[way] && net.stations[0].held.missing[0] == 1);
+        CHECK(kept.totals[2].sums[0] == due[way] && kept.totals[2].missing[0] == 1);
+    }
+    struct tally_map none = triangle;
+    CHECK(tally_rendezvous_fresh(&net, &kept, none, TALLY_READINGS + 1, 0) == 12 && net.config.way == TALLY_READINGS);
+    none.desk = 3;
+    CHECK(tally_rendezvous_fresh(&net, &kept, none, 255, 0) == 19);
+    net.config.way = 255;
+    CHECK(tally_rendezvous_draw(&net, &kept, 0) == 11);
 }
 
 /* Totals carried back: the triangle takes 2 × 3 + 3 steps, and ends with all three knowing 23. */
@@ -98,7 +120,7 @@ static void told(void)
     static struct tally_kept others;
     struct tally_rendezvous net;
     memset(&kept, 0xa5, sizeof kept);
-    CHECK(tally_rendezvous_fresh(&net, &kept, triangle, 1) == 0 && net.carrying == 1);
+    CHECK(tally_rendezvous_fresh(&net, &kept, triangle, TALLY_SUM, 1) == 0 && net.carrying == 1);
     const struct tally_aggregate nothing = {{0}, {0}}, total = {{23}, {0}};
     for (unsigned i = 0; i < TALLY_STATIONS; i++)
         CHECK(same_held(&kept.totals[i], &nothing));
@@ -114,7 +136,7 @@ static void told(void)
 
     /* any number but 0 opens for carrying back; in a net only 0 and 1 are in form */
     struct tally_rendezvous other;
-    CHECK(tally_rendezvous_fresh(&other, &others, triangle, 255) == 0 && other.carrying == 1);
+    CHECK(tally_rendezvous_fresh(&other, &others, triangle, TALLY_SUM, 255) == 0 && other.carrying == 1);
     other = net;
     other.carrying = 2;
     CHECK(tally_rendezvous_draw(&other, &kept, 0) == 11);
@@ -134,7 +156,7 @@ static void told(void)
 int main(void)
 {
     struct tally_rendezvous net;
-    CHECK(tally_rendezvous_fresh(&net, &kept, triangle, 0) == 0);
+    CHECK(tally_rendezvous_fresh(&net, &kept, triangle, TALLY_SUM, 0) == 0);
     CHECK(are_fresh(net.config, net.stations));
     refusals(&net);
     CHECK(made(tally_rendezvous_step(&net, &kept, TALLY_WAKE, 0, 1), TALLY_WAKE, 0, 1));
@@ -150,6 +172,7 @@ int main(void)
     missing();
     classes();
     desks();
+    ways();
     told();
     return 0;
 }

@@ -26,7 +26,7 @@ static struct tally_rendezvous reported(struct tally_map map)
 {
     static const uint16_t draws[7] = {0, 1};
     struct tally_rendezvous net;
-    CHECK(tally_rendezvous_fresh(&net, &kept, map, 0) == 0);
+    CHECK(tally_rendezvous_fresh(&net, &kept, map, TALLY_SUM, 0) == 0);
     CHECK(tally_rendezvous_run(&net, &kept, draws, 7).answer == 256);
     return net;
 }

@@ -53,13 +53,13 @@ static void map_read(void) { answer = tally_map_read(&map, bytes, sizeof bytes);
 static void map_write(void) { answer = tally_map_write(map, bytes, sizeof bytes); }
 static void map_accept(void) { answer = tally_map_accept(map); }
 static void map_links(void) { answer = tally_map_links(map); }
-static void meet_fresh(void) { answer = tally_rendezvous_fresh(&net, &kept, map, carrying); }
+static void meet_fresh(void) { answer = tally_rendezvous_fresh(&net, &kept, map, TALLY_SUM, carrying); }
 static void meet_step(void) { answer = tally_rendezvous_step(&net, &kept, TALLY_WAKE, 0, 1); }
 static void meet_tell(void) { answer = tally_rendezvous_step(&net, &kept, TALLY_TELL, net.stations[head].parent, head); }
 static void meet_draw(void) { answer = tally_rendezvous_draw(&net, &kept, 9640); }
 static void meet_run(void) { answer = tally_rendezvous_run(&net, &kept, draws, MOST_DRAWS).answer; }
 static void sheet(void) { answer = tally_sheet(map, &net, &kept, lines, sizeof lines); }
-static void mail_fresh(void) { answer = tally_mailbox_fresh(&line, &mail, map); }
+static void mail_fresh(void) { answer = tally_mailbox_fresh(&line, &mail, map, TALLY_SUM); }
 static void mail_step(void) { answer = tally_mailbox_step(&line, &mail, TALLY_DELIVERY, 0, 1); }
 static void mail_draw(void) { answer = tally_mailbox_draw(&line, &mail, 9640); }
 static void mail_run(void) { answer = tally_mailbox_run(&line, &mail, draws, MOST_DRAWS).answer; }
@@ -102,8 +102,8 @@ static void spoil_line(void) { line.stations[TALLY_STATIONS - 1].waits = TALLY_S
 
 static void stations(void)
 {
-    const struct tally_process asleep = {5, TALLY_CLASSES, 0, {{{1}, {0}}, 6, 0, 2, TALLY_ASLEEP}},
-                               ready = {5, TALLY_CLASSES, 0, {{{1}, {0}}, 0, 1, 0, TALLY_ACTIVE}};
+    const struct tally_process asleep = {5, TALLY_CLASSES, 0, TALLY_LEAST, {{{1}, {0}}, 6, 0, 2, TALLY_ASLEEP}},
+                               ready = {5, TALLY_CLASSES, 0, TALLY_LEAST, {{{1}, {0}}, 0, 1, 0, TALLY_ACTIVE}};
     process = asleep;
     measure("tally_process_take_start", TALLY_PROCESS_STACK, take_start, spoil_process);
     process = asleep;

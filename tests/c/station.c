@@ -12,7 +12,7 @@ static const uint64_t most = ((uint64_t)1 << 62) - 1, too_much = (uint64_t)1 << 
 static int same(const process *a, const process *b)
 {
     const struct tally_station *s = &b->station;
-    return a->own == b->own && a->classes == b->classes && a->desk == b->desk
+    return a->own == b->own && a->classes == b->classes && a->desk == b->desk && a->way == b->way
         && is(&a->station, s->held, s->unstarted, s->parent, s->waits, s->state);
 }
 
@@ -65,7 +65,7 @@ static void all_refuse(const process *p, uint64_t number)
 
 static void refusals(const process *finished)
 {
-    const process active = {1, 1, 0, {held(7, 0), 4, 0, 1, 1}};
+    const process active = {1, 1, 0, TALLY_SUM, {held(7, 0), 4, 0, 1, 1}};
     process lent = active;
     CHECK(tally_process_take_start(&lent, TALLY_STATIONS) == 12);
     CHECK(tally_process_send_start(&lent, 255) == 12);
@@ -92,17 +92,17 @@ static void refusals(const process *finished)
 /* Missing numbers on both sides of their bound, in the answer and in the record. */
 static void missing(void)
 {
-    const process active = {1, 1, 0, {held(7, 0), 0, 0, 3, 1}};
+    const process active = {1, 1, 0, TALLY_SUM, {held(7, 0), 0, 0, 3, 1}};
     process lent = active;
     CHECK(tally_process_take_answer(&lent, held(11, TALLY_MOST_MISSING + 1)) == 12);
     CHECK(same(&lent, &active));
     CHECK(tally_process_take_answer(&lent, held(11, TALLY_MOST_MISSING)) == 0);
-    const process full = {1, 1, 0, {held(18, TALLY_MOST_MISSING), 0, 0, 2, 1}};
+    const process full = {1, 1, 0, TALLY_SUM, {held(18, TALLY_MOST_MISSING), 0, 0, 2, 1}};
     CHECK(same(&lent, &full));
 
     /* accepted, and out of form from then on, by the missing number alone */
     CHECK(tally_process_take_answer(&lent, held(11, 1)) == 0);
-    const process over = {1, 1, 0, {held(29, TALLY_MOST_MISSING + 1), 0, 0, 1, 1}};
+    const process over = {1, 1, 0, TALLY_SUM, {held(29, TALLY_MOST_MISSING + 1), 0, 0, 1, 1}};
     CHECK(same(&lent, &over));
     all_refuse(&lent, 11);
 }
@@ -110,17 +110,17 @@ static void missing(void)
 /* Two classes, and past them what no class may hold: it stays in the record, and is not given. */
 static void classes(void)
 {
-    const process active = {1, 2, 0, {{{7, 0, too_much}, {0, 1, 255}}, 0, 3, 1, 1}};
+    const process active = {1, 2, 0, TALLY_SUM, {{{7, 0, too_much}, {0, 1, 255}}, 0, 3, 1, 1}};
     const struct tally_aggregate answer = {{11, 4, UINT64_MAX}, {2, 0, 255}}, due = {{18, 4}, {2, 1}};
     process lent = active;
     CHECK(tally_process_take_answer(&lent, both(held(0, 0), held(too_much, 0))) == 12);
     CHECK(tally_process_take_answer(&lent, both(held(0, 0), held(0, TALLY_MOST_MISSING + 1))) == 12);
     CHECK(same(&lent, &active));
     CHECK(tally_process_take_answer(&lent, answer) == 0);
-    const process taken = {1, 2, 0, {{{18, 4, too_much}, {2, 1, 255}}, 0, 3, 0, 1}};
+    const process taken = {1, 2, 0, TALLY_SUM, {{{18, 4, too_much}, {2, 1, 255}}, 0, 3, 0, 1}};
     CHECK(same(&lent, &taken));
     const struct tally_given given = tally_process_send_answer(&lent);
-    const process finished = {1, 2, 0, {{{18, 4, too_much}, {2, 1, 255}}, 0, 3, 0, 2}};
+    const process finished = {1, 2, 0, TALLY_SUM, {{{18, 4, too_much}, {2, 1, 255}}, 0, 3, 0, 2}};
     CHECK(given.answer == 256 * 3 && same(&lent, &finished) && same_held(&given.held, &due));
 
     /* with a third class in use, the record is out of form */
@@ -132,7 +132,7 @@ static void classes(void)
 /* The desk's own record, wherever it is: it reports and never answers, and may be its own parent; all others answer, station 0 too. */
 static void desks(void)
 {
-    const process desk = {5, 1, 5, {held(7, 0), 0, 5, 0, 1}}, other = {0, 1, 5, {held(7, 0), 0, 5, 0, 1}};
+    const process desk = {5, 1, 5, TALLY_SUM, {held(7, 0), 0, 5, 0, 1}}, other = {0, 1, 5, TALLY_SUM, {held(7, 0), 0, 5, 0, 1}};
     process lent = desk;
     CHECK(tally_process_send_answer(&lent).answer == 13 && same(&lent, &desk));
     CHECK(tally_process_report(&lent).answer == 256 * 5 && lent.station.state == TALLY_FINISHED);
@@ -151,13 +151,45 @@ static void desks(void)
     }
 }
 
+/* Joined the greatest and the least way, with TALLY_NONE for no reading; under the sum and the number it is out of range, and a record that holds
+   it out of form; so is a record of another way. */
+static void ways(void)
+{
+    const process active = {1, 1, 0, TALLY_SUM, {held(7, 1), 0, 0, 9, 1}};
+    const uint64_t answers[3] = {11, TALLY_NONE, 5}, due[4][3] = {{18, 18, 23}, {11, 11, 11}, {7, 7, 5}, {18, 18, 23}};
+    for (uint8_t way = TALLY_SUM; way <= TALLY_READINGS; way++) {
+        const int has_none = way == TALLY_GREATEST || way == TALLY_LEAST;
+        process lent = active;
+        lent.way = way;
+        for (unsigned i = 0; i < 3; i++) {
+            CHECK(tally_process_take_answer(&lent, held(answers[i], 1)) == (answers[i] == TALLY_NONE && !has_none ? 12 : 0));
+            CHECK(lent.station.held.sums[0] == due[way][i]);
+        }
+        CHECK(lent.station.held.missing[0] == (has_none ? 4 : 3));
+        lent.station.held.sums[0] = TALLY_NONE;
+        if (has_none)
+            CHECK(tally_process_take_answer(&lent, held(3, 0)) == 0 && lent.station.held.sums[0] == 3);
+        else
+            all_refuse(&lent, 11);
+        lent.station.held.sums[0] = TALLY_NONE - 1;
+        all_refuse(&lent, 11);
+    }
+    const uint8_t none[2] = {TALLY_READINGS + 1, 255};
+    for (unsigned i = 0; i < 2; i++) {
+        process lent = active;
+        lent.way = none[i];
+        all_refuse(&lent, 11);
+    }
+}
+
 int main(void)
 {
-    process s[3] = {{0, 1, 0, {held(5, 0), 6, 0, 2, 1}}, {1, 1, 0, {held(7, 0), 5, 0, 2, 0}}, {2, 1, 0, {held(11, 0), 3, 0, 2, 0}}};
+    process s[3] = {{0, 1, 0, TALLY_SUM, {held(5, 0), 6, 0, 2, 1}}, {1, 1, 0, TALLY_SUM, {held(7, 0), 5, 0, 2, 0}}, {2, 1, 0, TALLY_SUM, {held(11, 0), 3, 0, 2, 0}}};
     wave(s);
     refusals(&s[0]);
     missing();
     classes();
     desks();
+    ways();
     return 0;
 }

@@ -42,7 +42,7 @@ static inline int is(const struct tally_station *s, struct tally_aggregate due, 
 
 static inline int are_fresh(struct tally_config config, const struct tally_station s[TALLY_STATIONS])
 {
-    return config.k == 3 && config.classes == 1 && config.desk == 0 && is(&s[0], held(5, 0), 6, 0, 2, TALLY_ACTIVE)
+    return config.k == 3 && config.classes == 1 && config.desk == 0 && config.way == TALLY_SUM && is(&s[0], held(5, 0), 6, 0, 2, TALLY_ACTIVE)
         && is(&s[1], held(7, 0), 5, 0, 2, TALLY_ASLEEP) && is(&s[2], held(11, 0), 3, 0, 2, TALLY_ASLEEP)
         && is(&s[3], held(0, 0), 0, 0, 0, TALLY_ASLEEP) && is(&s[TALLY_STATIONS - 1], held(0, 0), 0, 0, 0, TALLY_ASLEEP);
 }

@@ -52,7 +52,7 @@ pub fn run(Back(net): &mut Back, draws: &[u16]) -> Result<(usize, bool), usize> 
         let receiver = &net.stations[usize::from(step.receiver)];
         let is_left = match step.kind {
             TELL => receiver.waits != 0,
-            ANSWER => !is_bounded(&receiver.held, net.config.classes),
+            ANSWER => !is_bounded(&receiver.held, net.config),
             _ => false,
         };
         if is_left {
@@ -66,7 +66,7 @@ pub fn run(Back(net): &mut Back, draws: &[u16]) -> Result<(usize, bool), usize> 
 }
 
 fn is_in_form(net: &Meet) -> bool {
-    let Config { k, classes, desk } = net.config;
+    let Config { k, desk, .. } = net.config;
     let settled = net.stations.map(|station| match station.state {
         TOLD => Station { state: FINISHED, ..station },
         _ => station,
@@ -74,7 +74,7 @@ fn is_in_form(net: &Meet) -> bool {
     let places = || net.stations[..k.into()].iter().zip(&net.kept).enumerate();
     are_in_form(net.config, &settled)
         && places().all(|(own, (station, kept))| {
-            is_bounded(kept, classes) && (station.state != TOLD || own != usize::from(desk) && station.waits == 0)
+            is_bounded(kept, net.config) && (station.state != TOLD || own != usize::from(desk) && station.waits == 0)
         })
 }
 

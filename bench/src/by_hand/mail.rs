@@ -1,7 +1,8 @@
 use super::stations::{
-    are_bounded, are_in_form, below, fresh as fresh_stations, in_state, is_bounded, is_in_range, member,
+    are_bounded, are_in_form, below, fresh as fresh_stations, in_state, is_bounded, is_in_range, joined, member,
 };
 use super::Refusal;
+use conformance::model::aggregate::SUM;
 use conformance::model::mail::{DELIVERY, REPORT};
 use conformance::model::map::Map;
 use conformance::model::net::{Config, Step};
@@ -24,7 +25,7 @@ pub fn fresh(map: &Map) -> Mail {
     let mut starts = [0; 64];
     starts[usize::from(map.desk)] = map.neighbours[usize::from(map.desk)];
     let (missing, sums) = ([[0; 64]; 64], [[[0; 64]; 64]; 8]);
-    Mail { config: Config::of(map), stations: fresh_stations(map), starts, answers: [0; 64], missing, sums }
+    Mail { config: Config::of(map, SUM), stations: fresh_stations(map), starts, answers: [0; 64], missing, sums }
 }
 
 pub fn step(net: &mut Mail, step: Step) -> Result<Step, Refusal> {
@@ -62,7 +63,7 @@ pub fn run(net: &mut Mail, draws: &[u16]) -> Result<(usize, bool), usize> {
         let receiver = &net.stations[usize::from(step.receiver)];
         open.follow(step.receiver, receiver.state);
         // the only thing that a step may take out of form
-        if has_joined && !is_bounded(&receiver.held, net.config.classes) {
+        if has_joined && !is_bounded(&receiver.held, net.config) {
             return Err(steps + 1);
         }
     }
@@ -90,6 +91,7 @@ impl Mail {
     fn brings_bounded(&self, sender: usize, receiver: usize) -> bool {
         let classes = usize::from(self.config.classes);
         are_bounded(
+            self.config.way,
             self.sums[..classes].iter().map(|sums| sums[sender][receiver]),
             &self.missing[sender][receiver].to_le_bytes()[..classes],
         )
@@ -99,8 +101,9 @@ impl Mail {
     fn take_answer(&mut self, sender: usize, receiver: usize) {
         let held = &mut self.stations[receiver].held;
         let missing = self.missing[sender][receiver].to_le_bytes();
+        let joined = joined(self.config.way);
         for class in 0..usize::from(self.config.classes) {
-            held.sums[class] += self.sums[class][sender][receiver];
+            held.sums[class] = joined(held.sums[class], self.sums[class][sender][receiver]);
             held.missing[class] += missing[class];
         }
     }

@@ -1,13 +1,18 @@
 use super::stations::{are_in_form, fresh as fresh_stations, in_state, is_bounded, is_in_range, join, member};
 use super::Refusal;
-use conformance::model::aggregate::Aggregate;
+use conformance::model::aggregate::{Aggregate, SUM};
 use conformance::model::map::Map;
 use conformance::model::meet::{Meet, ANSWER, PASS, REPORT, WAKE, WITHOUT};
 use conformance::model::net::{Config, Step};
 use conformance::model::station::{Station, ACTIVE, ASLEEP, FINISHED};
 
 pub fn fresh(map: &Map) -> Meet {
-    Meet { config: Config::of(map), stations: fresh_stations(map), carrying: WITHOUT, kept: [Aggregate::default(); 64] }
+    Meet {
+        config: Config::of(map, SUM),
+        stations: fresh_stations(map),
+        carrying: WITHOUT,
+        kept: [Aggregate::default(); 64],
+    }
 }
 
 pub fn step(net: &mut Meet, step: Step) -> Result<Step, Refusal> {
@@ -44,7 +49,7 @@ pub fn run(net: &mut Meet, draws: &[u16]) -> Result<(usize, bool), usize> {
         make(net, step);
         awake.follow(step);
         // the only thing that a step may take out of form
-        if step.kind == ANSWER && !is_bounded(&net.stations[usize::from(step.receiver)].held, net.config.classes) {
+        if step.kind == ANSWER && !is_bounded(&net.stations[usize::from(step.receiver)].held, net.config) {
             return Err(steps + 1);
         }
     }
@@ -161,7 +166,7 @@ pub fn make(net: &mut Meet, Step { kind, sender, receiver }: Step) {
         }
         _ => {
             from.state = FINISHED;
-            join(&mut to.held, &from.held, net.config.classes);
+            join(&mut to.held, &from.held, net.config);
             to.waits = to.waits.saturating_sub(1);
         }
     }

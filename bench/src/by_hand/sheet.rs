@@ -1,7 +1,7 @@
 //! The grower sheet: a line starts as blanks, and digits are put into it from the right.
 
 use super::{map, stations, Refusal};
-use conformance::model::aggregate::NO_READING;
+use conformance::model::aggregate::{NO_READING, SUM};
 use conformance::model::map::Map;
 use conformance::model::meet::Meet;
 use conformance::model::net::Config;
@@ -14,7 +14,7 @@ pub fn lay_out(map: &Map, net: &Meet, buffer: &mut [u8]) -> Result<usize, Refusa
     if !stations::are_in_form(net.config, &net.stations) {
         return Err((11, 0));
     }
-    if net.config != Config::of(map) {
+    if net.config != Config::of(map, SUM) {
         return Err((20, 0));
     }
     let (k, classes) = (usize::from(map.k), usize::from(map.classes));

@@ -1,6 +1,6 @@
 //! What both kinds of net share.
 
-use conformance::model::aggregate::{Aggregate, MOST_MISSING, NO_READING, SUM_LIMIT};
+use conformance::model::aggregate::{Aggregate, GREATEST, LEAST, MOST_MISSING, NONE, NO_READING, NUMBER, SUM_LIMIT};
 use conformance::model::map::Map;
 use conformance::model::net::{Config, Step};
 use conformance::model::station::{Station, ACTIVE, FINISHED};
@@ -24,8 +24,9 @@ pub fn fresh(map: &Map) -> [Station; 64] {
     stations
 }
 
-pub fn are_in_form(Config { k, classes, desk }: Config, stations: &[Station; 64]) -> bool {
-    if !(1..=64).contains(&k) || !(1..=8).contains(&classes) || desk >= k {
+pub fn are_in_form(config: Config, stations: &[Station; 64]) -> bool {
+    let Config { k, classes, desk, way } = config;
+    if !(1..=64).contains(&k) || !(1..=8).contains(&classes) || desk >= k || way > NUMBER {
         return false;
     }
     let below_k = below(k);
@@ -35,25 +36,38 @@ pub fn are_in_form(Config { k, classes, desk }: Config, stations: &[Station; 64]
             && station.unstarted & !below_k == 0
             && station.unstarted >> own & 1 == 0
             && station.waits <= 64
-            && is_bounded(&station.held, classes)
+            && is_bounded(&station.held, config)
             && (own == usize::from(desk) || usize::from(station.parent) != own)
     })
 }
 
-pub fn is_bounded(held: &Aggregate, classes: u8) -> bool {
+pub fn is_bounded(held: &Aggregate, Config { classes, way, .. }: Config) -> bool {
     let classes = usize::from(classes);
-    are_bounded(held.sums[..classes].iter().copied(), &held.missing[..classes])
+    are_bounded(way, held.sums[..classes].iter().copied(), &held.missing[..classes])
 }
 
 /// Sums are below a power of two just when all their bits together are.
-pub fn are_bounded(sums: impl Iterator<Item = u64>, missing: &[u8]) -> bool {
-    sums.fold(0, |bits, sum| bits | sum) < SUM_LIMIT && missing.iter().all(|&missing| missing <= MOST_MISSING)
+pub fn are_bounded(way: u8, mut sums: impl Iterator<Item = u64>, missing: &[u8]) -> bool {
+    let bounded = match way {
+        GREATEST | LEAST => sums.all(|sum| sum < SUM_LIMIT || sum == NONE),
+        _ => sums.fold(0, |bits, sum| bits | sum) < SUM_LIMIT,
+    };
+    bounded && missing.iter().all(|&missing| missing <= MOST_MISSING)
 }
 
-pub fn join(held: &mut Aggregate, given: &Aggregate, classes: u8) {
-    let classes = usize::from(classes);
+/// How two sums of a way are joined: one more than none is nothing.
+pub fn joined(way: u8) -> fn(u64, u64) -> u64 {
+    match way {
+        GREATEST => |a, b| a.wrapping_add(1).max(b.wrapping_add(1)).wrapping_sub(1),
+        LEAST => u64::min,
+        _ => |a, b| a + b,
+    }
+}
+
+pub fn join(held: &mut Aggregate, given: &Aggregate, Config { classes, way, .. }: Config) {
+    let (classes, joined) = (usize::from(classes), joined(way));
     for (sum, given) in held.sums[..classes].iter_mut().zip(&given.sums[..classes]) {
-        *sum += given;
+        *sum = joined(*sum, *given);
     }
     for (missing, given) in held.missing[..classes].iter_mut().zip(&given.missing[..classes]) {
         *missing += given;

@@ -72,12 +72,12 @@ module _ (t : Config) where
 
   -- what is bounded, and two of these joined
   pub bounded-fits : (a : Aggregate) → bounded t a ≡ true → FitsWord a
-  bounded-fits a h i l = omega (arith, cell-parts (cell a i) (bounded-at t a h i l) .1)
+  bounded-fits a h i l = omega (arith, cell-parts (t .way) (cell a i) (bounded-at t a h i l) .1)
 
   pub joined-fits : (a b : Aggregate) → bounded t a ≡ true → bounded t b ≡ true → FitsWord (joined t a b)
   unfolding joined cellJoined
   joined-fits a b h g i l =
       let here : cell (joined t a b) i .missing ≡ cell a i .missing + cell b i .missing =
-      ap (λ (x : Cell). x .missing) (cell-places (λ j. cond (ltb j (used t)) (cellJoined (cell a j) (cell b j)) (cell a j)) i (omega arith))
+      ap (λ (x : Cell). x .missing) (cell-places (λ j. cond (ltb j (used t)) (cellJoined (t .way) (cell a j) (cell b j)) (cell a j)) i (omega arith))
       ∙ rw (lt-ltb i (used t) l) in
-      omega (arith, cell-parts (cell a i) (bounded-at t a h i l) .1, cell-parts (cell b i) (bounded-at t b g i l) .1)
+      omega (arith, cell-parts (t .way) (cell a i) (bounded-at t a h i l) .1, cell-parts (t .way) (cell b i) (bounded-at t b g i l) .1)

@@ -1,18 +1,21 @@
 // What a station has gathered, class by class, and how two of these are joined. The crates above look inside none of these records.
 ghost use mathlib.Core.Path.{_≡_};
 ghost use mathlib.Core.Bool.{true, cond};
-ghost use Prim.Native.Nat.{ℕ, _<_};
+ghost use Prim.Native.Nat.{ℕ, _<_, max, min};
+ghost use lib.Dec.{eqb};
 ghost use lib.ListN.{getD};
 ghost use Rattle.finite.specs.Numbers.{bytes};
-ghost use Rattle.aggregate.specs.Aggregate.{rootOf, isClassCount, valid, used, cell, cellBounded, bounded, nothing, cellGathered, gathered};
+ghost use Rattle.aggregate.specs.Ways.{greatest, isWay, hasNone, chosenOf, sumJoined, emptySum};
+ghost use Rattle.aggregate.specs.Aggregate.{rootOf, isClassCount, valid, used, cell, sumBounded, cellBounded, bounded, nothing, cellGathered, gathered};
 ghost use Rattle.aggregate.specs.Aggregate.{joined, joinable, clipped, missingWord, fromWords, ofWords};
 
-// What a net is opened with: the number of its stations, and of the classes that are counted, and its desk.
+// What a net is opened with: the number of its stations, and of the classes that are counted, its desk, and its way of joining counts.
 #[repr(C)]
 pub struct Config {
     pub k: u8,
     pub classes: u8,
     pub desk: u8,
+    pub way: u8,
 }
 
 // What a station counted, class by class; the largest count stands for no reading.
@@ -44,7 +47,19 @@ const MOST_CLASSES: usize = 8;
 // The count of a head without a reading.
 pub const NO_READING: u32 = 4294967295;
 
-// Sums of well-formed stations are below this.
+// The ways of joining counts.
+pub const SUMMING: u8 = 0;
+
+const GREATEST: u8 = 1;
+
+const LEAST: u8 = 2;
+
+const COUNTING: u8 = 3;
+
+// The greatest or the least of no readings.
+const NONE: u64 = 18446744073709551615;
+
+// Sums of well-formed stations are below this, but for none.
 const SUM_LIMIT: u64 = 1 << 62;
 
 // Their missing numbers are at most this.
@@ -64,11 +79,28 @@ pub fn is_class_count(c: u64) -> bool
     (0 < c) & (c <= MOST_CLASSES as u64)
 }
 
+// Whether counts may be joined so.
+pub fn is_way(way: u8) -> bool
+    ensures { λ r. ⌜ r ≡ isWay way ⌝ }
+{
+    way <= COUNTING
+}
+
+// Whether a value stands for no readings, the way.
+fn has_none(way: u8) -> bool
+    ensures { λ r. ⌜ r ≡ hasNone way ⌝ }
+{
+    (way == GREATEST) | (way == LEAST)
+}
+
 // Whether a net may be opened so.
 pub fn is_valid(t: Config) -> bool
     ensures { λ r. ⌜ r ≡ valid t ⌝ }
 {
-    bitset::is_station_count(t.k as u64) & is_class_count(t.classes as u64) & (root(t) < t.k)
+    bitset::is_station_count(t.k as u64)
+        & is_class_count(t.classes as u64)
+        & (root(t) < t.k)
+        & is_way(t.way)
 }
 
 // How many classes are in use: loops over them end there.
@@ -92,10 +124,18 @@ pub fn class_of(a: Aggregate, i: usize) -> Cell
     Cell { sum: 0, missing: 0 }
 }
 
-fn is_cell_bounded(x: Cell) -> bool
-    ensures { λ r. ⌜ r ≡ cellBounded x ⌝ }
+// Whether a class is one that a well-formed station may hold. A form is tested often, and nearly all sums are small: the way is asked for the others
+// alone.
+fn is_cell_bounded(way: u8, x: Cell) -> bool
+    ensures { λ r. ⌜ r ≡ cellBounded way x ⌝ }
 {
-    (x.sum < SUM_LIMIT) & (x.missing <= MOST_MISSING)
+    if MOST_MISSING < x.missing {
+        return false;
+    }
+    if x.sum < SUM_LIMIT {
+        return true;
+    }
+    has_none(way) & (x.sum == NONE)
 }
 
 // Whether a is one that a well-formed station may hold.
@@ -103,13 +143,14 @@ pub fn is_bounded(t: Config, a: Aggregate) -> bool
     ensures { λ r. ⌜ r ≡ bounded t a ⌝ }
 {
     let c = count_used(t);
+    let way = t.way;
     let mut i: usize = 0;
     while i < c {
         let x = Cell {
             sum: a.sums[i],
             missing: a.missing[i],
         };
-        if !is_cell_bounded(x) {
+        if !is_cell_bounded(way, x) {
             return false;
         }
         i += 1;
@@ -117,7 +158,7 @@ pub fn is_bounded(t: Config, a: Aggregate) -> bool
     true
 }
 
-// Nothing gathered.
+// Zero in every class.
 pub fn empty() -> Aggregate
     ensures { λ a. ⌜ a ≡ nothing ⌝ }
 {
@@ -127,12 +168,25 @@ pub fn empty() -> Aggregate
     }
 }
 
+// The joining of no counts.
+fn empty_sum(way: u8) -> u64
+    ensures { λ r. ⌜ r ≡ emptySum way ⌝ }
+{
+    if has_none(way) { NONE } else { 0 }
+}
+
 // What one count gives.
-fn gather_cell(count: u32) -> Cell
-    ensures { λ r. ⌜ r ≡ cellGathered count ⌝ }
+fn gather_cell(way: u8, count: u32) -> Cell
+    ensures { λ r. ⌜ r ≡ cellGathered way count ⌝ }
 {
     if count == NO_READING {
-        return Cell { sum: 0, missing: 1 };
+        return Cell {
+            sum: empty_sum(way),
+            missing: 1,
+        };
+    }
+    if way == COUNTING {
+        return Cell { sum: 1, missing: 0 };
     }
     Cell {
         sum: count as u64,
@@ -140,16 +194,42 @@ fn gather_cell(count: u32) -> Cell
     }
 }
 
+// One of two sums, the greater or the lesser; none gives way to a count.
+fn choose(way: u8, x: u64, y: u64) -> u64
+    ensures { λ r. ⌜ r ≡ chosenOf (cond (eqb way greatest) max min) x y ⌝ }
+{
+    if x == NONE {
+        return y;
+    }
+    if y == NONE {
+        return x;
+    }
+    let first = if way == GREATEST { y < x } else { x < y };
+    if first { x } else { y }
+}
+
+// Two sums, joined the way.
+fn join_sums(way: u8, x: u64, y: u64) -> u64
+    requires { ⌜ (sumBounded way x ≡ true) × (sumBounded way y ≡ true) ⌝ }
+    ensures { λ r. ⌜ r ≡ sumJoined way x y ⌝ }
+{
+    if has_none(way) {
+        return choose(way, x, y);
+    }
+    x + y
+}
+
 // What a station's own reading gives.
 pub fn gather(t: Config, r: Reading) -> Aggregate
     ensures { λ a. ⌜ a ≡ gathered t r ⌝ }
 {
     let c = count_used(t);
+    let way = t.way;
     let mut sums = [0u64; 8];
     let mut missing = [0u8; 8];
     let mut i: usize = 0;
     while i < c {
-        let x = gather_cell(r.counts[i]);
+        let x = gather_cell(way, r.counts[i]);
         sums[i] = x.sum;
         missing[i] = x.missing;
         i += 1;
@@ -163,6 +243,7 @@ pub fn join(t: Config, a: Aggregate, b: Aggregate) -> Joined
     ensures held { λ r. ⌜ r .held ≡ cond (joinable t a b) (joined t a b) a ⌝ }
 {
     let classes = count_used(t);
+    let way = t.way;
     let mut sums = a.sums;
     let mut missing = a.missing;
     let mut class: usize = 0;
@@ -175,13 +256,13 @@ pub fn join(t: Config, a: Aggregate, b: Aggregate) -> Joined
             sum: b.sums[class],
             missing: b.missing[class],
         };
-        if !(is_cell_bounded(x) & is_cell_bounded(y)) {
+        if !(is_cell_bounded(way, x) & is_cell_bounded(way, y)) {
             return Joined {
                 bounded: false,
                 held: a,
             };
         }
-        sums[class] = x.sum + y.sum;
+        sums[class] = join_sums(way, x.sum, y.sum);
         missing[class] = x.missing + y.missing;
         class += 1;
     }

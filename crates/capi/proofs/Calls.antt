@@ -6,9 +6,8 @@ use mathlib.Core.List.{List}
 use Prim.Native.Nat.{ℕ}
 use Rattle.topology.specs.Answer.{accepted, isAccepted}
 use Rattle.finite.specs.Tests.{unless}
-use Rattle.topology.specs.declared.Verdict.{Verdict}
-use Rattle.topology.specs.Acceptance.{verdictNumbers}
-use Rattle.linemap.specs.Openings.{openingOf}
+use Rattle.linemap.specs.declared.FreshAnswer.{FreshAnswer}
+use Rattle.linemap.specs.Openings.{freshNumbers, openingOf}
 use Rattle.schedule.specs.declared.Answer.{Answer}
 use Rattle.schedule.specs.declared.Answer.the-variants.{Made, Refused}
 use Rattle.schedule.specs.Outcome.{stepOutcomeOf}
@@ -27,8 +26,8 @@ module _ {Lent : Type 0} (numbers : List ℕ) (before after : Lent) where
   pub accepted-replaces : (found : Lent) → accepted ≡ numbers → found ≡ after → called 0 found ≡ replacing numbers before after
   accepted-replaces found is same = ap (λ (x : Lent). called 0 x) same ∙ ap (λ (l : List ℕ). replacing l before after) is
 
-pub verdict-call : {Net : Type 0} (v : Verdict) (n : ℕ) (net : Net) → n ≡ packed (verdictNumbers v) → called n net ≡ freshCall (openingOf v net)
-verdict-call v n net number = ap (λ (x : ℕ). called x net) number
+pub opened-call : {Net : Type 0} (a : FreshAnswer) (n : ℕ) (net : Net) → n ≡ packed (freshNumbers a) → called n net ≡ freshCall (openingOf a net)
+opened-call a n net number = ap (λ (x : ℕ). called x net) number
 
 pub answer-call : {Net : Type 0} (a : Answer) (n : ℕ) (net : Net) → n ≡ packed (answerNumbers a) → called n net ≡ stepCall (stepOutcomeOf a net)
 answer-call (Made s) n net number = ap (λ (x : ℕ). called x net) number

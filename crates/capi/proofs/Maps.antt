@@ -8,7 +8,8 @@ use native.Mathlib.Omega.{arith}
 use lib.Dec.{leb, ltb}
 use lib.ListN.{length}
 use borrow.Author.Tests.{leb-false}
-use Rattle.aggregate.specs.Aggregate.{rootOf, isClassCount}
+use Rattle.aggregate.specs.Ways.{summing}
+use Rattle.aggregate.specs.Aggregate.{isClassCount}
 use Rattle.aggregate.proofs.Laws.{class-count}
 use Rattle.topology.specs.Answer.{isAccepted}
 use Rattle.finite.specs.Tests.{unless}
@@ -51,7 +52,7 @@ verdict-small root k sets =
 acceptance-small : (m : Map) → valueOf (acceptance m) ≤ 64
 acceptance-small m =
     unless-small valueOf 64 (isClassCount (m .classes)) (faultNumbers Classes) _ (λ refused. zero-le)
-    (λ few. verdict-small (rootOf (configOf m)) (m .k) (m .neighbours))
+    (λ few. verdict-small (m .desk) (m .k) (m .neighbours))
 
 -- the longest of all: 64 rows of eight counts
 length-most : (m : Map) → isAccepted (acceptance m) ≡ true → lengthOf m ≤ 2576
@@ -84,7 +85,7 @@ sheet-small m net l =
     (λ accepted. let need = sheet-most m accepted in
     unless-small value 21361 (isStorable (m .lot)) _ _ (λ long. zero-le)
     (λ storable. unless-small value 21361 (wellFormed net) _ _ (λ outside. zero-le)
-    (λ formed. unless-small value 21361 (agrees (configOf m) (net .config)) _ _ (λ differs. zero-le)
+    (λ formed. unless-small value 21361 (agrees (configOf summing m) (net .config)) _ _ (λ differs. zero-le)
     (λ same. unless-small value 21361 (isReported (m .classes) (deskOf net)) _ _ (λ unreported. zero-le)
     (λ reported. unless-small value 21361 (leb (sheetLength m) (length l)) _ _ (λ short. need) (λ fits. need)))))) in
     omega (arith, small)

@@ -8,7 +8,7 @@ use Rattle.schedule.specs.Outcome.{StepOutcome, RunOutcome}
 use Rattle.capi.specs.declared.steps.Run.{Run}
 use Rattle.capi.specs.Answers.{packed, Called, called}
 
--- "a map handed over goes 3, 7 to 10" (Causes and numbers), else the fresh net
+-- "a map handed over goes 3, 7 to 10" (Causes and numbers), then 12 for the way (document 02, request 10), else the fresh net
 abbrev pub freshCall : {Net : Type 0} → Opening Net → Called ℕ Net
 freshCall o = called (packed (o .numbers)) (o .net)
 

@@ -12,18 +12,19 @@ ghost use Rattle.mailbox.specs.Opening.{mailboxOpening};
 ghost use Rattle.capi.specs.Answers.{called};
 ghost use Rattle.capi.specs.Steps.{freshCall, stepCall, runCall};
 
-// The fresh net of an accepted map.
+// The fresh net of an accepted map, to join counts the way.
 #[no_mangle]
 pub extern "C" fn tally_mailbox_fresh(
     line: &mut [u64; 705],
     boxes: &mut [u64; 36992],
     map: Map,
+    way: u8,
 ) -> u64
-    ensures call { λ r. ⌜ called r (netOf (now (line .exit)) (now (boxes .exit))) ≡ freshCall (mailboxOpening map (netOf (now (line .entry)) (now (boxes .entry)))) ⌝ }
+    ensures call { λ r. ⌜ called r (netOf (now (line .exit)) (now (boxes .exit))) ≡ freshCall (mailboxOpening way map (netOf (now (line .entry)) (now (boxes .entry)))) ⌝ }
     ensures spare { λ _. ⌜ spareIn (now (line .exit)) ≡ spareIn (now (line .entry)) ⌝ }
 {
-    let answer = mailbox::fresh(map, line, boxes);
-    crate::map::verdict(answer)
+    let answer = mailbox::fresh(map, way, line, boxes);
+    crate::map::opened(answer)
 }
 
 // One step.

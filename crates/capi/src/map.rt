@@ -1,9 +1,12 @@
 // Line maps: read into a lent map, written, accepted and counted.
+use linemap::FreshAnswer;
+use linemap::FreshFault;
 use linemap::Map;
 use linemap::ReadAnswer;
 use linemap::ReadFault;
 use linemap::WriteAnswer;
 use linemap::WriteFault;
+use refusal::Refusal;
 use topology::Fault;
 use topology::LinksAnswer;
 use topology::Verdict;
@@ -12,6 +15,7 @@ ghost use mathlib.Core.List.{[], _∷_};
 ghost use Prim.Native.Nat.{_<_};
 ghost use Rattle.topology.specs.Acceptance.{faultNumbers, verdictNumbers, linksNumbers};
 ghost use Rattle.linemap.specs.Maps.{acceptance, linksIn};
+ghost use Rattle.linemap.specs.Openings.{freshFaultNumbers, freshNumbers};
 ghost use Rattle.linemap.specs.Reading.{readFaultNumbers};
 ghost use Rattle.linemap.specs.Writing.{writeFaultNumbers, writeNumbers};
 ghost use Rattle.capi.specs.Answers.{packed, called};
@@ -45,12 +49,31 @@ pub(crate) fn fault(why: Fault) -> u64
     }
 }
 
-pub(crate) fn verdict(answer: Verdict) -> u64
+fn verdict(answer: Verdict) -> u64
     ensures { λ r. ⌜ r ≡ packed (verdictNumbers answer) ⌝ }
 {
     match answer {
         Verdict::Accepted => 0,
         Verdict::Refused(why) => fault(why),
+    }
+}
+
+fn fresh_fault(why: FreshFault) -> u64
+    ensures { λ r. ⌜ r ≡ packed (freshFaultNumbers why) ⌝ }
+{
+    match why {
+        FreshFault::Unfit(why) => fault(why),
+        FreshFault::Way => refusal::number(Refusal::OutOfRange) as u64,
+    }
+}
+
+// Whether a net was opened.
+pub(crate) fn opened(answer: FreshAnswer) -> u64
+    ensures { λ r. ⌜ r ≡ packed (freshNumbers answer) ⌝ }
+{
+    match answer {
+        FreshAnswer::Opened => 0,
+        FreshAnswer::Refused(why) => fresh_fault(why),
     }
 }
 

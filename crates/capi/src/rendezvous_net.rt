@@ -13,19 +13,20 @@ ghost use Rattle.rendezvous.specs.Opening.{rendezvousOpening};
 ghost use Rattle.capi.specs.Answers.{called};
 ghost use Rattle.capi.specs.Steps.{freshCall, stepCall, runCall};
 
-// The fresh net of an accepted map, opened for carrying totals back unless the last number is 0.
+// The fresh net of an accepted map, to join counts the way, opened for carrying totals back unless the last number is 0.
 #[no_mangle]
 pub extern "C" fn tally_rendezvous_fresh(
     net: &mut [u64; 705],
     kept: &mut [u64; 576],
     map: Map,
+    way: u8,
     carrying: u8,
 ) -> u64
-    ensures call { λ r. ⌜ called r (netIn (now (net .exit)) (now (kept .exit))) ≡ freshCall (rendezvousOpening (not (eqb carrying 0)) map (netIn (now (net .entry)) (now (kept .entry)))) ⌝ }
+    ensures call { λ r. ⌜ called r (netIn (now (net .exit)) (now (kept .exit))) ≡ freshCall (rendezvousOpening (not (eqb carrying 0)) way map (netIn (now (net .entry)) (now (kept .entry)))) ⌝ }
     ensures beside { λ _. ⌜ besideIn (now (net .exit)) ≡ besideIn (now (net .entry)) ⌝ }
 {
-    let answer = rendezvous::fresh(map, carrying != 0, net, kept);
-    crate::map::verdict(answer)
+    let answer = rendezvous::fresh(map, way, carrying != 0, net, kept);
+    crate::map::opened(answer)
 }
 
 // One step.

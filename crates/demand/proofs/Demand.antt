@@ -12,14 +12,17 @@ use borrow.Author.Tests.{eqb-true, eq-eqb, not-true}
 use Rattle.finite.proofs.Cases.{by-bool}
 use Rattle.aggregate.specs.declared.Cell.{Cell}
 use Rattle.aggregate.specs.Aggregate.{rootOf, cell}
+use Rattle.aggregate.specs.Reported.{Reported}
 use Rattle.aggregate.specs.internal.Joining.{cells, joining}
+use Rattle.aggregate.proofs.Reported as words
 use Rattle.wave.specs.internal.Wave.{report}
 use Rattle.wave.specs.internal.Claim.{times, AtRest, WaveClaim}
 use Rattle.topology.specs.Answer.{accepted}
 use Rattle.topology.specs.Acceptance.{linked}
 use Rattle.topology.proofs.Webs.{linked-back}
 use Rattle.linemap.specs.declared.Map.{Map}
-use Rattle.linemap.specs.Maps.{configOf, acceptance, totals}
+use Rattle.linemap.specs.Maps.{configOf, acceptance, place, countAt, totals}
+use Rattle.linemap.specs.RoundTrip.{Fits}
 use Rattle.schedule.specs.declared.Step.{Step}
 use Rattle.schedule.specs.Listing.{select, howMany, step}
 use Rattle.schedule.specs.Calls.{Call}
@@ -41,42 +44,42 @@ use Rattle.order.proofs.RendezvousOrder.{rendezvous-order}
 use Rattle.order.proofs.RendezvousBack.{rendezvous-carried}
 use Rattle.order.proofs.MailboxOrder.{mailbox-order}
 use Rattle.demand.specs.Kinds.{Kind, meeting, carrying, mailing, isReport, desk, deskHeld, made, left, steps, reports}
-use Rattle.demand.specs.Demand.{Holds, OnEveryMap, Demand}
+use Rattle.demand.specs.Demand.{Holds, OnEveryMap, OnEveryWay, Demand}
 use Rattle.demand.proofs.Counted.{reports-counted, messages-counted, last-is-report}
 
 -- what a kind brings: its nets are order-free on every accepted map
 abbrev pub Orderly : Kind → Type 0
-Orderly K = Ordered (K .rules) (K .fresh) (λ m net. K .station net (rootOf (configOf m)) .held)
+Orderly K = Ordered (K .rules) (K .way) (K .fresh) (λ m net. K .station net (m .desk) .held)
 
 -- and besides: the fresh net of a map has the map's desk for its root, which no step moves
 record Rooted (K : Kind) : Type 0 where
   opened : (m : Map) → K .rules .root (K .fresh m) ≡ desk m
   kept : (net : K .Net) (s : Step) → K .rules .root (K .rules .apply net s) ≡ K .rules .root net
 
-meeting-rooted : Rooted meeting
+meeting-rooted : (way : ℕ) → Rooted (meeting way)
 unfolding rendezvous-net.freshNet
-meeting-rooted = record { opened = λ m. refl; kept = λ net s. ap rootOf (config-after net s) }
+meeting-rooted way = record { opened = λ m. refl; kept = λ net s. ap rootOf (config-after net s) }
 
-mailing-rooted : Rooted mailing
+mailing-rooted : (way : ℕ) → Rooted (mailing way)
 unfolding mailbox-net.freshNet netAfter delivered reported
-mailing-rooted =
+mailing-rooted way =
     record { opened = λ m. refl; kept = λ net s. by-bool (eqb (s .kind) delivery) (λ e. rw e) (λ e. rw e) }
 
-carrying-rooted : Rooted carrying
+carrying-rooted : (way : ℕ) → Rooted (carrying way)
 unfolding rendezvous-net.freshNet
-carrying-rooted = record { opened = λ m. refl; kept = λ net s. ap rootOf (config-after net s) }
+carrying-rooted way = record { opened = λ m. refl; kept = λ net s. ap rootOf (config-after net s) }
 
 -- every step of a kind's is allowed, or one that is counted
 abbrev Moves : (K : Kind) → K .Net → Step → Type 0
 Moves K net s = (K .counts s ≡ true) × Allowed (K .rules) net s
 
 -- the clauses, from the wave's of the steps that are counted, which are the first of those made
-module _ (K : Kind) (rooted : Rooted K) (m : Map) (good : acceptance m ≡ accepted) (calls : List Call) (after : List Step)
+module _ (K : Kind) (rooted : Rooted K) (m : Map) (fits : Fits m) (good : acceptance m ≡ accepted) (calls : List Call) (after : List Step)
     (first : made K m calls ≡ steps K m calls ++ after)
-    (d : WaveClaim (m .k) (linked (m .k) (m .neighbours)) joining (readings m) (map (labelOf (K .rules)) (steps K m calls))
-    (AtRest (Moves K) (left K m calls)) (cells (configOf m) (deskHeld K m (left K m calls))))
+    (d : WaveClaim (m .k) (linked (m .k) (m .neighbours)) (joining (K .way)) (readings (K .way) m) (map (labelOf (K .rules)) (steps K m calls))
+    (AtRest (Moves K) (left K m calls)) (cells (configOf (K .way) m) (deskHeld K m (left K m calls))))
     (formed : K .rules .wellFormed (left K m calls) ≡ true)
-    (number : times report (map (labelOf (K .rules)) (steps K m calls)) ≡ 1 → (j : ℕ) → j < m .classes → cell (deskHeld K m (left K m calls)) j ≡ totals m j) where
+    (number : times report (map (labelOf (K .rules)) (steps K m calls)) ≡ 1 → (j : ℕ) → j < m .classes → cell (deskHeld K m (left K m calls)) j ≡ totals (K .way) m j) where
   holds-of : Holds K m calls
   holds-of =
       let counted = steps K m calls in
@@ -84,7 +87,7 @@ module _ (K : Kind) (rooted : Rooted K) (m : Map) (good : acceptance m ≡ accep
       let reported = reports-counted K counted in
       let carried = messages-counted K counted in
       let accepts = accepted-allowed (K .rules) (left K m calls) formed in
-      let back = linked-back (rootOf (configOf m)) (m .k) (m .neighbours) (web-of m good) in
+      let back = linked-back (m .desk) (m .k) (m .neighbours) (web-of m good) in
       record {
         reported-once = rw reported at (d .one-report);
         carried-once = λ i j. rw (carried i j) at (d .one-message i j);
@@ -106,6 +109,9 @@ module _ (K : Kind) (rooted : Rooted K) (m : Map) (good : acceptance m ≡ accep
             (eqb-true _ _ (ap (isReport K) at ∙ is .1))
             ∙ ap (λ (x : ℕ). step (K .rules .reports) x x) (rooted .opened m);
         number-reported = λ e. number (reported ∙ e);
+        in-words = λ e j l.
+            subst (Reported (K .way) (m .k) (λ i. countAt m i j)) (sym (number (reported ∙ e) j l))
+            (words.reported (K .way) (m .k) (λ i. countAt m i j) (λ i h. fits .counts (place i j)));
         each-way = λ e i j link. (
           sym (carried i j) ∙ d .each-way (reported ∙ e) i j link,
           sym (carried j i) ∙ d .each-way (reported ∙ e) j i (back i j link),
@@ -127,30 +133,31 @@ holds K orderly rooted whole m fits good calls =
     let net = left K m calls in
     let all = select-all (K .counts) whole (made K m calls) in
     let label = labelOf (K .rules) in
-    holds-of K rooted m good calls [] (sym (append-nil (steps K m calls) ∙ all))
-    (subst (λ (l : List Step). WaveClaim (m .k) (linked (m .k) (m .neighbours)) joining (readings m) (map label l) (AtRest (Moves K) net) (cells (configOf m) (deskHeld K m net)))
+    holds-of K rooted m fits good calls [] (sym (append-nil (steps K m calls) ∙ all))
+    (subst (λ (l : List Step). WaveClaim (m .k) (linked (m .k) (m .neighbours)) (joining (K .way)) (readings (K .way) m) (map label l) (AtRest (Moves K) net) (cells (configOf (K .way) m) (deskHeld K m net)))
     (sym all)
-    (claim-rest (m .k) (linked (m .k) (m .neighbours)) joining (readings m) _ _ _ _ (λ r s a. r s (a .1)) (λ r s a. r s (whole s, a)) (order .order .demand calls)))
+    (claim-rest (m .k) (linked (m .k) (m .neighbours)) (joining (K .way)) (readings (K .way) m) _ _ _ _ (λ r s a. r s (a .1)) (λ r s a. r s (whole s, a)) (order .order .demand calls)))
     (order .order .formed calls)
     (λ one. order .number calls (ap (λ (l : List Step). times report (map label l)) (sym all) ∙ one))
 
 -- where tells do not count
-carrying-holds : OnEveryMap (Holds carrying)
-carrying-holds m fits good calls =
-    let back = rendezvous-carried m fits good .back calls in
-    let net = left carrying m calls in
-    holds-of carrying carrying-rooted m good calls (select isTell (made carrying m calls)) (back .tells-last)
-    (claim-rest (m .k) (linked (m .k) (m .neighbours)) joining (readings m) _ _ _ _
+carrying-holds : OnEveryWay (λ way. OnEveryMap (Holds (carrying way)))
+carrying-holds way w m fits good calls =
+    let K = carrying way in
+    let back = rendezvous-carried way w m fits good .back calls in
+    let net = left K m calls in
+    holds-of K (carrying-rooted way) m fits good calls (select isTell (made K m calls)) (back .tells-last)
+    (claim-rest (m .k) (linked (m .k) (m .neighbours)) (joining (K .way)) (readings (K .way) m) _ _ _ _
     (λ r s a. r s (not-true (isTell s) (a .0), a .1))
     (λ r s a. r s (ap not (a .0), a .1))
     (back .demand))
-    (rendezvous-carried m fits good .formed calls)
-    (λ one j l. sym (class-held m good (deskHeld carrying m net) j l) ∙ ap (λ (f : ℕ → Cell). f j) (back .demand .total one) ∙ chosen-joined m good (λ i. true) j l)
+    (rendezvous-carried way w m fits good .formed calls)
+    (λ one j l. sym (class-held way m good (deskHeld K m net) j l) ∙ ap (λ (f : ℕ → Cell). f j) (back .demand .total one) ∙ chosen-joined way m good (λ i. true) j l)
 
 pub demand : Demand
 demand =
     record {
-      stations-that-meet = holds meeting rendezvous-order meeting-rooted (λ s. refl);
+      stations-that-meet = λ way w. holds (meeting way) (rendezvous-order way w) (meeting-rooted way) (λ s. refl);
       carrying-back = carrying-holds;
-      stations-with-mail = holds mailing mailbox-order mailing-rooted (λ s. refl);
+      stations-with-mail = λ way w. holds (mailing way) (mailbox-order way w) (mailing-rooted way) (λ s. refl);
     }

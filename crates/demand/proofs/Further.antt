@@ -31,7 +31,7 @@ use Rattle.order.proofs.RendezvousOrder.{rendezvous-order, rendezvous-conserved
 use Rattle.order.proofs.RendezvousBack.{rendezvous-carried, carried-conserved}
 use Rattle.order.proofs.MailboxOrder.{mailbox-order}
 use Rattle.demand.specs.Kinds.{Kind, meeting, carrying, mailing, made, left, steps, reports}
-use Rattle.demand.specs.Demand.{OnEveryMap}
+use Rattle.demand.specs.Demand.{OnEveryMap, OnEveryWay}
 use Rattle.demand.specs.Further.{DrawsPick, RestIsRest, Final, RunIsDraws, FreshRun, OfKind, EndsInReport, Conserved, Read, Further}
 use Rattle.demand.proofs.Counted.{reports-counted}
 use Rattle.demand.proofs.Demand.{Orderly, Whole, reports-made}
@@ -118,11 +118,13 @@ of-kind K formed =
       formed = formed;
     }
 
-conserved : Conserved meeting
-conserved m fits good calls none = rendezvous-conserved m fits good calls (reports-made meeting (λ s. refl) m calls ∙ none)
+conserved : OnEveryWay (λ way. Conserved (meeting way))
+conserved way w m fits good calls none =
+    rendezvous-conserved way w m fits good calls (reports-made (meeting way) (λ s. refl) m calls ∙ none)
 
-carried : Conserved carrying
-carried m fits good calls none = carried-conserved m fits good calls (reports-counted carrying (steps carrying m calls) ∙ none)
+carried : OnEveryWay (λ way. Conserved (carrying way))
+carried way w m fits good calls none =
+    carried-conserved way w m fits good calls (reports-counted (carrying way) (steps (carrying way) m calls) ∙ none)
 
 read : Read
 read s byte ok =
@@ -133,15 +135,15 @@ read s byte ok =
 pub further : Further
 further =
     record {
-      stations-that-meet = (
-        of-kind meeting (λ m fits good. rendezvous-order m fits good .order .formed),
-        ends-in-report meeting rendezvous-order (λ s. refl),
+      stations-that-meet = λ way w. (
+        of-kind (meeting way) (λ m fits good. rendezvous-order way w m fits good .order .formed),
+        ends-in-report (meeting way) (rendezvous-order way w) (λ s. refl),
       );
-      carrying-back = of-kind carrying (λ m fits good. rendezvous-carried m fits good .formed);
-      stations-with-mail = (
-        of-kind mailing (λ m fits good. mailbox-order m fits good .order .formed),
-        ends-in-report mailing mailbox-order (λ s. refl),
+      carrying-back = λ way w. of-kind (carrying way) (λ m fits good. rendezvous-carried way w m fits good .formed);
+      stations-with-mail = λ way w. (
+        of-kind (mailing way) (λ m fits good. mailbox-order way w m fits good .order .formed),
+        ends-in-report (mailing way) (mailbox-order way w) (λ s. refl),
       );
-      conserved = (conserved, carried);
+      conserved = λ way w. (conserved way w, carried way w);
       read = read;
     }

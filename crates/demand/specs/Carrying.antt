@@ -16,7 +16,7 @@ use Rattle.schedule.specs.Calls.{Call}
 use Rattle.rendezvous.specs.Telling.{isTell, knows, known}
 use Rattle.rendezvous.specs.Rules.{rules}
 use Rattle.demand.specs.Kinds.{carrying, made, left, steps, reports}
-use Rattle.demand.specs.Demand.{OnEveryMap}
+use Rattle.demand.specs.Demand.{OnEveryMap, OnEveryWay}
 use Rattle.demand.specs.Further.{Final, FreshRun}
 
 -- "a full run has 2 × m + k steps on m links"
@@ -24,27 +24,27 @@ abbrev pub full : Map → ℕ
 full m = 2 * linkCount m + m .k
 
 -- the tells among the steps made
-abbrev pub tells : Map → List Call → List Step
-tells m calls = select isTell (made carrying m calls)
+abbrev pub tells : ℕ → Map → List Call → List Step
+tells way m calls = select isTell (made (carrying way) m calls)
 
--- what holds on one map after one list of calls
-pub record CarriedOn (m : Map) (calls : List Call) : Type 0 where
+-- what holds of one way and on one map after one list of calls
+pub record CarriedOn (way : ℕ) (m : Map) (calls : List Call) : Type 0 where
   -- "only tells follow the report", and none goes before it
-  pub tells-follow : made carrying m calls ≡ steps carrying m calls ++ tells m calls
-  pub no-tell-before : reports carrying m calls ≡ 0 → tells m calls ≡ []
+  pub tells-follow : made (carrying way) m calls ≡ steps (carrying way) m calls ++ tells way m calls
+  pub no-tell-before : reports (carrying way) m calls ≡ 0 → tells way m calls ≡ []
   -- "a full run has 2 × m + k steps .., whichever order is taken": at rest is where so many were made, and never more are
-  pub at-most : length (made carrying m calls) ≤ full m
-  pub rest-full : ((s : Step) → stepOn rules (left carrying m calls) s .number ≡ 0 → ⊥) ↔ (length (made carrying m calls) ≡ full m)
+  pub at-most : length (made (carrying way) m calls) ≤ full m
+  pub rest-full : ((s : Step) → stepOn rules (left (carrying way) m calls) s .number ≡ 0 → ⊥) ↔ (length (made (carrying way) m calls) ≡ full m)
   -- "and ends with every station knowing the reported total"
-  pub full-known : (length (made carrying m calls) ≡ full m) ↔ ((i : ℕ) → i < m .k → knows (left carrying m calls) i ≡ true)
+  pub full-known : (length (made (carrying way) m calls) ≡ full m) ↔ ((i : ℕ) → i < m .k → knows (left (carrying way) m calls) i ≡ true)
   -- before the end, too, whoever knows a total knows that of all counts, class by class
-  pub total-known : (i : ℕ) → i < m .k → knows (left carrying m calls) i ≡ true
-      → (j : ℕ) → j < m .classes → cell (known (left carrying m calls) i) j ≡ totals m j
+  pub total-known : (i : ℕ) → i < m .k → knows (left (carrying way) m calls) i ≡ true
+      → (j : ℕ) → j < m .classes → cell (known (left (carrying way) m calls) i) j ≡ totals way m j
   -- and a full net stays as it is
-  pub final : length (made carrying m calls) ≡ full m → Final rules (left carrying m calls)
+  pub final : length (made (carrying way) m calls) ≡ full m → Final rules (left (carrying way) m calls)
 
--- all of it, on every accepted map, after every list of calls
+-- all of it, of every way, on every accepted map, after every list of calls
 pub record Carried : Type 0 where
-  pub back : OnEveryMap CarriedOn
+  pub back : OnEveryWay (λ way. OnEveryMap (CarriedOn way))
   -- "For such nets the run's formula has 2 × m + k in place of 2 × m + 1"
-  pub run-formula : OnEveryMap (λ m draws. FreshRun carrying (full m) m draws)
+  pub run-formula : OnEveryWay (λ way. OnEveryMap (λ m draws. FreshRun (carrying way) (full m) m draws))

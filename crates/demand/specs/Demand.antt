@@ -6,11 +6,13 @@ use mathlib.Core.List.{List}
 use mathlib.Core.Logic.{_↔_}
 use Prim.Native.Nat.{ℕ, _+_, _-_, _*_, _≤_, _<_}
 use lib.ListN.{length, getD}
+use Rattle.aggregate.specs.Ways.{isWay}
 use Rattle.aggregate.specs.Aggregate.{cell}
+use Rattle.aggregate.specs.Reported.{Reported}
 use Rattle.topology.specs.Answer.{accepted}
 use Rattle.topology.specs.Acceptance.{linked}
 use Rattle.linemap.specs.declared.Map.{Map}
-use Rattle.linemap.specs.Maps.{acceptance, linkCount, totals}
+use Rattle.linemap.specs.Maps.{acceptance, linkCount, countAt, totals}
 use Rattle.linemap.specs.RoundTrip.{Fits}
 use Rattle.schedule.specs.declared.Step.{Step}
 use Rattle.schedule.specs.Listing.{step}
@@ -33,8 +35,12 @@ pub record Holds (K : Kind) (m : Map) (calls : List Call) : Type 0 where
   -- "Then the report was the last of them,": "Every order must now end in that desk's report" (document 02, request 5)
   pub report-last : reports K m calls ≡ 1 → getD (steps K m calls) (length (steps K m calls) - 1) (step 0 0 0) ≡ deskReport K m
   -- "the number reported is the sum of all the map's counts,": "the sum over heads with a reading, together with how many had none, in every
-  -- order of steps" (document 02, request 1), "so that each class reports its own total" (request 2)
-  pub number-reported : reports K m calls ≡ 1 → (j : ℕ) → j < m .classes → cell (deskHeld K m (left K m calls)) j ≡ totals m j
+  -- order of steps" (document 02, request 1), "so that each class reports its own total" (request 2); "The report equals the joining of all the map's
+  -- readings" (request 10)
+  pub number-reported : reports K m calls ≡ 1 → (j : ℕ) → j < m .classes → cell (deskHeld K m (left K m calls)) j ≡ totals (K .way) m j
+  -- which is, in plain words, the sum, the greatest or the least of them, or their number, with how many are missing
+  pub in-words : reports K m calls ≡ 1 → (j : ℕ) → j < m .classes
+      → Reported (K .way) (m .k) (λ i. countAt m i j) (cell (deskHeld K m (left K m calls)) j)
   -- "and each link has carried exactly one message each way."
   pub each-way : reports K m calls ≡ 1 → (i j : ℕ) → linked (m .k) (m .neighbours) i j ≡ true
       → (messages K m calls i j ≡ 1) × (messages K m calls j i ≡ 1)
@@ -43,9 +49,13 @@ pub record Holds (K : Kind) (m : Map) (calls : List Call) : Type 0 where
 abbrev pub OnEveryMap : {A : Type 0} → (Map → A → Type 0) → Type 0
 OnEveryMap {A = A} Claim = (m : Map) → Fits m → acceptance m ≡ accepted → (a : A) → Claim m a
 
+-- "for all ways" (document 02, request 10)
+abbrev pub OnEveryWay : (ℕ → Type 0) → Type 0
+OnEveryWay Claim = (way : ℕ) → isWay way ≡ true → Claim way
+
 -- "from the fresh net of either kind, this holds after every list of steps, draws and runs". "So nobody can stop the desk short of its report,
 -- make it report twice, or make it report another number."
 pub record Demand : Type 0 where
-  pub stations-that-meet : OnEveryMap (Holds meeting)
-  pub carrying-back : OnEveryMap (Holds carrying)
-  pub stations-with-mail : OnEveryMap (Holds mailing)
+  pub stations-that-meet : OnEveryWay (λ way. OnEveryMap (Holds (meeting way)))
+  pub carrying-back : OnEveryWay (λ way. OnEveryMap (Holds (carrying way)))
+  pub stations-with-mail : OnEveryWay (λ way. OnEveryMap (Holds (mailing way)))

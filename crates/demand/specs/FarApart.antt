@@ -9,7 +9,7 @@ use Rattle.rendezvous.specs.Net.{Net}
 use Rattle.rendezvous.specs.Rules.{rules}
 use Rattle.rendezvous.specs.Opening.{freshOn}
 use Rattle.rendezvous.specs.FarApart.{Apart, BothAllowed, Exchange, Reordered, Alike, Ends}
-use Rattle.demand.specs.Demand.{OnEveryMap}
+use Rattle.demand.specs.Demand.{OnEveryMap, OnEveryWay}
 
 -- "two steps are allowed .., name no station in common"
 abbrev pub AllowedApart : Net → Step → Step → Type 0
@@ -23,6 +23,6 @@ pub record FarApartIn (net : Net) : Type 0 where
   pub ends : (a b : List Step) → callsMade rules net (map single a) ≡ a → callsMade rules net (map single b) ≡ b
       → ((s t : Step) → List·Memᴰ s a → List·Memᴰ t b → Apart s t) → Ends net a b
 
--- on every accepted map, opened for carrying back or not, in the net that any list of calls leaves
+-- on every accepted map, opened for carrying back or not and with any way, in the net that any list of calls leaves
 abbrev pub FarApartOnMaps : Type 0
-FarApartOnMaps = (back : Bool) → OnEveryMap (λ m calls. FarApartIn (callsNet rules (freshOn back m) calls))
+FarApartOnMaps = (back : Bool) → OnEveryWay (λ way. OnEveryMap (λ m calls. FarApartIn (callsNet rules (freshOn back way m) calls)))

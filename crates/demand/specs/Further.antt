@@ -20,7 +20,7 @@ use Rattle.schedule.specs.Outcome.{stepRefused}
 use Rattle.schedule.specs.Draws.{stepOn, drawOn, runOn}
 use Rattle.schedule.specs.Calls.{Call, draw, run, callMade, callNet, callsMade, callsNet}
 use Rattle.demand.specs.Kinds.{Kind, meeting, carrying, mailing, left, reports}
-use Rattle.demand.specs.Demand.{OnEveryMap}
+use Rattle.demand.specs.Demand.{OnEveryMap, OnEveryWay}
 
 module _ {Net : Type 0} (R : Rules Net) where
   -- "the c allowed steps", as those that a single step would accept, "listed by kind, then sender, then receiver, rising"
@@ -75,11 +75,11 @@ pub record EndsInReport (K : Kind) : Type 0 where
   pub final : OnEveryMap (λ m calls. reports K m calls ≡ 1 → Final (K .rules) (left K m calls))
   pub fresh-run : OnEveryMap (λ m draws. FreshRun K (2 * linkCount m + 1) m draws)
 
--- "Before the report the sums of stations not finished add up to the map's total" (Stations that meet), class by class
+-- "Before the report the sums of stations not finished add up to the map's total" (Stations that meet), class by class, joined the way
 abbrev pub Conserved : Kind → Type 0
 Conserved K =
     OnEveryMap (λ m calls.
-    reports K m calls ≡ 0 → (j : ℕ) → j < m .classes → unfinished (m .k) (K .station (left K m calls)) j ≡ totals m j)
+    reports K m calls ≡ 0 → (j : ℕ) → j < m .classes → unfinished (K .way) (m .k) (K .station (left K m calls)) j ≡ totals (K .way) m j)
 
 -- a map that was read fits its fields and is accepted, so all of this holds of it
 abbrev pub Read : Type 0
@@ -89,9 +89,9 @@ Read =
 
 -- all of it
 pub record Further : Type 0 where
-  pub stations-that-meet : OfKind meeting × EndsInReport meeting
-  pub carrying-back : OfKind carrying
-  pub stations-with-mail : OfKind mailing × EndsInReport mailing
+  pub stations-that-meet : OnEveryWay (λ way. OfKind (meeting way) × EndsInReport (meeting way))
+  pub carrying-back : OnEveryWay (λ way. OfKind (carrying way))
+  pub stations-with-mail : OnEveryWay (λ way. OfKind (mailing way) × EndsInReport (mailing way))
   -- with mail, sums are on their way too
-  pub conserved : Conserved meeting × Conserved carrying
+  pub conserved : OnEveryWay (λ way. Conserved (meeting way) × Conserved (carrying way))
   pub read : Read

@@ -5,10 +5,8 @@ use mathlib.Core.List.{List}
 use Prim.Native.Nat.{ℕ}
 use lib.Dec.{eqb}
 use Rattle.aggregate.specs.declared.Aggregate.{Aggregate}
-use Rattle.aggregate.specs.Aggregate.{rootOf}
 use Rattle.station.specs.declared.Station.{Station}
 use Rattle.linemap.specs.declared.Map.{Map}
-use Rattle.linemap.specs.Maps.{configOf}
 use Rattle.schedule.specs.declared.Step.{Step}
 use Rattle.schedule.specs.Rules.{Rules}
 use Rattle.schedule.specs.Listing.{select, howMany, step}
@@ -21,51 +19,56 @@ use Rattle.mailbox.specs.Net as mailbox-net
 use Rattle.mailbox.specs.Rules as mailbox-rules
 use Rattle.mailbox.specs.Opening as mailbox-opening
 
--- a kind of net: its rules, the fresh net of a map, the stations of a net, and which steps demand 3 counts, of all that are made
+-- a kind of net: its rules, its way of joining counts, the fresh net of a map, the stations of a net, and which steps demand 3 counts, of all that
+-- are made
 pub record Kind : Type 1 where
   pub Net : Type 0
   pub rules : Rules Net
+  pub way : ℕ
   pub fresh : Map → Net
   pub station : Net → ℕ → Station
   pub counts : Step → Bool
 
--- "Stations that meet"
-abbrev pub meeting : Kind
-meeting =
+-- "Stations that meet", "joined its way" (document 02, request 10)
+abbrev pub meeting : ℕ → Kind
+meeting way =
     record {
       Net = rendezvous-net.Net;
       rules = rendezvous-rules.rules;
-      fresh = rendezvous-opening.freshOn false;
+      way = way;
+      fresh = rendezvous-opening.freshOn false way;
       station = rendezvous-net.station;
       counts = λ s. true;
     }
 
 -- "A net of stations that meet may be opened for carrying back" (document 02, request 8): "in demand 3 the steps made, the steps allowed, the report
 -- as the last of them and the messages each way are those of kinds 1 to 4"
-abbrev pub carrying : Kind
-carrying =
+abbrev pub carrying : ℕ → Kind
+carrying way =
     record {
       Net = rendezvous-net.Net;
       rules = rendezvous-rules.rules;
-      fresh = rendezvous-opening.freshOn true;
+      way = way;
+      fresh = rendezvous-opening.freshOn true way;
       station = rendezvous-net.station;
       counts = λ s. not (isTell s);
     }
 
 -- "Stations with mail"
-abbrev pub mailing : Kind
-mailing =
+abbrev pub mailing : ℕ → Kind
+mailing way =
     record {
       Net = mailbox-net.Net;
       rules = mailbox-rules.rules;
-      fresh = mailbox-opening.freshOn;
+      way = way;
+      fresh = mailbox-opening.freshOn way;
       station = mailbox-net.station;
       counts = λ s. true;
     }
 
 -- "that desk" (document 02, request 5): the map's
 abbrev pub desk : Map → ℕ
-desk m = rootOf (configOf m)
+desk m = m .desk
 
 module _ (K : Kind) where
   -- a report, by its kind

@@ -7,7 +7,8 @@ use Rattle.finite.specs.Sum.{foldTo, indicator}
 use Rattle.finite.specs.Links.{links}
 use Rattle.bitset.specs.Set.{member, size, without, within}
 use Rattle.bitset.specs.Set as bitset
-use Rattle.aggregate.specs.Aggregate.{rootOf, valid, cellBounded, bounded, cellGathered, gathered, cellJoined, joined}
+use Rattle.aggregate.specs.Ways.{sumJoined, emptySum}
+use Rattle.aggregate.specs.Aggregate.{valid, sumBounded, cellBounded, bounded, cellGathered, gathered, cellJoined, joined}
 use Rattle.topology.specs.Acceptance.{anyBelow, near, firstFrom, verdictOf}
 use Rattle.linemap.specs.Words.{sumWords}
 use Rattle.linemap.specs.Stored.{countBytes, rowBytes, trailerBytes, bodyOf, checkWord, storedOf}
@@ -26,8 +27,8 @@ use Rattle.program.specs.Output.{stepLine, stepLines, lotLines, linesOf}
 use Rattle.edges.specs.Table.{TableHolds}
 
 pub table-holds : TableHolds
-unfolding allBelow tabulate each number bytes foldTo indicator links member size without within bitset.membersBelow rootOf valid
-    cellBounded bounded cellGathered gathered cellJoined joined anyBelow near firstFrom verdictOf sumWords countBytes rowBytes
+unfolding allBelow tabulate each number bytes foldTo indicator links member size without within bitset.membersBelow valid
+    cellBounded sumBounded bounded cellGathered emptySum gathered cellJoined sumJoined joined anyBelow near firstFrom verdictOf sumWords countBytes rowBytes
     trailerBytes bodyOf checkWord storedOf column grid reading form.wellFormed inRange allowed range select candidates listed
     listing.numbersFrom stepOn picked drawOn runMade runNet stopped runOn areWellFormed readingAt freshStation freshStations wellFormed
     freshNet mayStep assigned digits item cellText aggregateText textOf inputOpening drawAt stepLine stepLines lotLines linesOf flatMap

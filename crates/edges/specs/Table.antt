@@ -6,6 +6,7 @@ use mathlib.Core.List.{List, [], _∷_, _++_, map, flatMap}
 use Prim.Native.Nat.{ℕ}
 use Prim.Native.String.{String}
 use lib.ListN.{length, replicate}
+use Rattle.aggregate.specs.Ways.{summing}
 use Rattle.linemap.specs.declared.Map.{Map}
 use Rattle.finite.specs.Numbers.{bytes}
 use Rattle.linemap.specs.Stored.{bodyOf, storedOf}
@@ -27,7 +28,7 @@ pub data Given : Type 0 where
 
 -- the net that a run of a map leaves
 abbrev pub netAfter : Map → List ℕ → Net
-netAfter m draws = runOn rules (freshOn false m) draws .net
+netAfter m draws = runOn rules (freshOn false summing m) draws .net
 
 -- what the rules make of it: the bytes written, or the number of the call
 abbrev pub outcome : Given → List ℕ

@@ -1,5 +1,5 @@
 -- Lists whose entries are replaced or mapped. Assumes nothing.
-use mathlib.Core.Path.{_≡_, refl, ap, ap₂, _∙_}
+use mathlib.Core.Path.{_≡_, refl, sym, ap, ap₂, _∙_, subst}
 use mathlib.Core.List.{List, [], _∷_, _++_, map}
 use Prim.Native.Nat.{ℕ, zero, suc}
 use lib.ListN.{getD, set}
@@ -23,6 +23,13 @@ set-either P (y ∷ l) zero zero v d new old = new refl
 set-either P (y ∷ l) zero (suc x) v d new old = old
 set-either P (y ∷ l) (suc i) zero v d new old = old
 set-either P (y ∷ l) (suc i) (suc x) v d new old = set-either P l i x v d (λ e. new (ap suc e)) old
+
+-- the same of two replacements, where what is asked depends on the place
+pub set-two-either : {A : Type 0} (P : ℕ → A → Type 0) (l : List A) (j i x : ℕ) (v w d : A) → P j v → P i w → P x (getD l x d)
+    → P x (getD (set (set l j v) i w) x d)
+set-two-either P l j i x v w d first second old =
+    set-either (P x) (set l j v) i x w d (λ e. subst (λ (y : ℕ). P y w) (sym e) second)
+    (set-either (P x) l j x v d (λ e. subst (λ (y : ℕ). P y v) (sym e) first) old)
 
 map-snoc : {A B : Type 0} (f : A → B) (l : List A) (a : A) → map f (l ++ (a ∷ [])) ≡ map f l ++ (f a ∷ [])
 map-snoc f [] a = refl

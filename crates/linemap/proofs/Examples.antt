@@ -7,7 +7,9 @@ use lib.ListN.{replicate, drop}
 use Rattle.finite.specs.Sum.{foldTo, indicator}
 use Rattle.finite.specs.Links.{links}
 use Rattle.bitset.specs.Set.{member, within}
-use Rattle.aggregate.specs.Aggregate.{rootOf}
+use Rattle.aggregate.specs.Ways.{sumJoined, emptySum}
+use Rattle.aggregate.specs.Aggregate.{cellGathered, cellJoined}
+use Rattle.topology.specs.Answer.{accepted}
 use Rattle.topology.specs.Acceptance.{anyBelow, near, firstFrom, verdictOf, linksOf}
 use Rattle.finite.specs.Numbers.{number, bytes}
 use Rattle.linemap.specs.Words.{sumWords}
@@ -16,6 +18,7 @@ use Rattle.linemap.specs.Maps.{acceptance, linksIn, totals}
 use Rattle.linemap.specs.Stored.{countBytes, rowBytes, trailerBytes, bodyOf, checkWord, storedOf}
 use Rattle.linemap.specs.Reading.{readAs, column, grid, emptyMap, reading}
 use Rattle.linemap.specs.Writing.{writing, written}
+use Rattle.linemap.specs.Openings.{openable}
 use Rattle.linemap.specs.declared.Map.{Map}
 
 -- "15 bytes: 1"
@@ -62,20 +65,20 @@ triangle-stored = refl
 
 -- after a byte that is not read
 triangle-reads : reading (9 ∷ triangle-bytes) ≡ readAs triangle
-unfolding reading grid column tabulate each sumWords number verdictOf firstFrom member within anyBelow near rootOf
+unfolding reading grid column tabulate each sumWords number verdictOf firstFrom member within anyBelow near
 triangle-reads = refl
 
 triangle-links : linksIn triangle ≡ 0 ∷ 3 ∷ []
-unfolding linksOf verdictOf firstFrom member within anyBelow near rootOf links foldTo indicator
+unfolding linksOf verdictOf firstFrom member within anyBelow near links foldTo indicator
 triangle-links = refl
 
 -- one byte too few, and one more than needed, which stays
 no-room : (writing triangle 51 ≡ 15 ∷ 52 ∷ []) × (written triangle (replicate 51 9) ≡ replicate 51 9)
-unfolding writing written verdictOf firstFrom member within anyBelow near rootOf
+unfolding writing written verdictOf firstFrom member within anyBelow near
 no-room = (refl, refl)
 
 room : (writing triangle 53 ≡ 0 ∷ 52 ∷ []) × (written triangle (replicate 53 9) ≡ triangle-bytes ++ 9 ∷ [])
-unfolding writing written verdictOf firstFrom member within anyBelow near rootOf storedOf bodyOf trailerBytes rowBytes countBytes each bytes checkWord sumWords number
+unfolding writing written verdictOf firstFrom member within anyBelow near storedOf bodyOf trailerBytes rowBytes countBytes each bytes checkWord sumWords number
 room = (refl, refl)
 
 -- a byte changed
@@ -106,13 +109,20 @@ unfolding storedOf bodyOf trailerBytes rowBytes countBytes each bytes checkWord 
 pair-stored = refl
 
 pair-reads : reading (pair-bytes 16) ≡ readAs pair
-unfolding reading grid column tabulate each sumWords number verdictOf firstFrom member within anyBelow near rootOf
+unfolding reading grid column tabulate each sumWords number verdictOf firstFrom member within anyBelow near
 pair-reads = refl
 
--- each class has its own total; the second misses a reading
-pair-totals : (totals pair 0 ≡ record { sum = 7; missing = 0 }) × (totals pair 1 ≡ record { sum = 9; missing = 1 })
-unfolding foldTo
-pair-totals = (refl, refl)
+-- each class has its own total, of every way; the second misses a reading
+pair-totals : (totals 0 pair 0 ≡ record { sum = 7; missing = 0 }) × (totals 0 pair 1 ≡ record { sum = 9; missing = 1 })
+    × (totals 1 pair 0 ≡ record { sum = 4; missing = 0 }) × (totals 2 pair 0 ≡ record { sum = 3; missing = 0 })
+    × (totals 2 pair 1 ≡ record { sum = 9; missing = 1 }) × (totals 3 pair 1 ≡ record { sum = 1; missing = 1 })
+unfolding foldTo cellGathered cellJoined sumJoined emptySum
+pair-totals = (refl, refl, refl, refl, refl, refl)
+
+-- "Opening with a way above 3 gets 12, after the map's numbers" (document 02, request 10)
+pair-opens : (openable 3 pair ≡ accepted) × (openable 4 pair ≡ 12 ∷ []) × (openable 4 emptyMap ≡ 2 ∷ [])
+unfolding openable verdictOf firstFrom member within anyBelow near
+pair-opens = (refl, refl, refl)
 
 -- a row length of 12 leaves another distance, and one of 18 or 44 is refused
 other-rows : (reading (pair-bytes 12) .numbers ≡ 4 ∷ []) × (reading (pair-bytes 18) .numbers ≡ 2 ∷ []) × (reading (pair-bytes 44) .numbers ≡ 2 ∷ [])
@@ -133,17 +143,17 @@ unfolding storedOf bodyOf trailerBytes rowBytes countBytes each bytes checkWord 
 longest-stored = refl
 
 longest-reads : reading longest ≡ readAs (unlinked 1 281474976710655)
-unfolding reading grid column tabulate each sumWords number verdictOf firstFrom member within anyBelow near rootOf
+unfolding reading grid column tabulate each sumWords number verdictOf firstFrom member within anyBelow near
 longest-reads = refl
 
 -- "18 when a map handed over for writing has a lot of 2^48 or more, after 10 and before 15"
 too-long : (writing (unlinked 1 281474976710656) 0 ≡ 18 ∷ []) × (writing (unlinked 2 281474976710656) 0 ≡ 10 ∷ 1 ∷ [])
-unfolding writing verdictOf firstFrom member within anyBelow near rootOf
+unfolding writing verdictOf firstFrom member within anyBelow near
 too-long = (refl, refl)
 
 -- which only writing looks at
 still-accepted : acceptance (unlinked 1 281474976710656) ≡ 0 ∷ []
-unfolding verdictOf firstFrom member within anyBelow near rootOf
+unfolding verdictOf firstFrom member within anyBelow near
 still-accepted = refl
 
 -- "A map handed over with c not 1 to 8 gets 2, before 3"
@@ -159,11 +169,11 @@ unfolding storedOf bodyOf trailerBytes rowBytes countBytes each bytes checkWord 
 desk-stored = refl
 
 desk-reads : reading (triangle-rows ++ desk-trailer 3 2 36) ≡ readAs (at-desk 2)
-unfolding reading grid column tabulate each sumWords number verdictOf firstFrom member within anyBelow near rootOf
+unfolding reading grid column tabulate each sumWords number verdictOf firstFrom member within anyBelow near
 desk-reads = refl
 
 -- "19 when the desk is not below k, after 3": read, before 4; handed over
 no-desk : (reading (triangle-rows ++ desk-trailer 3 3 35) .numbers ≡ 19 ∷ []) × (reading (triangle-rows ++ desk-trailer 0 3 36) .numbers ≡ 3 ∷ [])
     × (acceptance (at-desk 3) ≡ 19 ∷ [])
-unfolding reading number verdictOf rootOf
+unfolding reading number verdictOf
 no-desk = (refl, refl, refl)

@@ -8,14 +8,14 @@ use native.Mathlib.Nat.{mod-eq-of-lt, mul-le-mul-right}
 use native.Mathlib.Omega.{arith}
 use lib.ListN.{length, getD, length-append}
 use borrow.Author.Tests.{eq-eqb}
-use Rattle.aggregate.specs.Aggregate.{rootOf, isClassCount}
+use Rattle.aggregate.specs.Aggregate.{isClassCount}
 use Rattle.topology.specs.Answer.{accepted, isAccepted}
 use Rattle.topology.specs.Web.{Web}
 use Rattle.topology.proofs.Webs.{web-agree, web-count}
 use Rattle.finite.specs.Numbers.{number, bytes}
 use Rattle.linemap.specs.Words.{sumWords}
 use Rattle.finite.specs.Below.{each}
-use Rattle.linemap.specs.Maps.{configOf, acceptance, place, countAt}
+use Rattle.linemap.specs.Maps.{acceptance, place, countAt}
 use Rattle.linemap.specs.Stored.{rowLength, lengthOf, wordCount, countBytes, rowBytes, trailerBytes, bodyOf, storedOf, checkWord}
 use Rattle.linemap.specs.Reading.{readAs, trailerIn, stationsIn, deskIn, rowLengthIn, distanceIn, lotIn, mapAt, judged, reading}
 use Rattle.linemap.specs.RoundTrip.{Fits, clearedOf}
@@ -79,7 +79,7 @@ module _ (m : Map) where
       ∙ check-zero (sumWords body 0 n) (sum-small body 0 n)
 
   module _ (fits : Fits m) (lot-small : m .lot < 2 ^ 48) (ok : acceptance m ≡ accepted) (before : List ℕ) where
-    web : Web (rootOf (configOf m)) (m .k) (m .neighbours)
+    web : Web (m .desk) (m .k) (m .neighbours)
     web = map-web m (ap isAccepted ok)
 
     classes : isClassCount c ≡ true
@@ -189,12 +189,12 @@ module _ (m : Map) where
     cleared-accepted : acceptance (clearedOf m) ≡ accepted
     cleared-accepted =
         map-accepted (clearedOf m) classes
-        (web-agree (rootOf (configOf m)) (m .k) (m .neighbours) (clearedOf m .neighbours)
+        (web-agree (m .desk) (m .k) (m .neighbours) (clearedOf m .neighbours)
         (λ i h. sym (column-at 64 (λ j. getD (m .neighbours) j 0) (m .k) i h)) web)
 
     pub written-reads : reading whole ≡ readAs (clearedOf m)
     written-reads =
         reading-left whole c (m .k) (m .desk) (m .lot) (length before) stations-are desk-is lot-is len row-is classes
-        (web-count (rootOf (configOf m)) (m .k) (m .neighbours) web) (map-desk m (ap isAccepted ok)) distance-is
+        (web-count (m .desk) (m .k) (m .neighbours) web) (map-desk m (ap isAccepted ok)) distance-is
         ∙ rw (eq-eqb (sumWords whole (length before) (wordCount c (m .k))) 0 sum-is)
         (ap judged map-is ∙ rw (ap isAccepted cleared-accepted))

@@ -1,21 +1,21 @@
--- A line map by value, and the rules on one that is handed over (document 01, "The line map"; document 02, requests 2 and 5).
+-- A line map by value, and the rules on one that is handed over (document 01, "The line map"; document 02, requests 2, 5 and 10).
 use mathlib.Core.Bool.{Bool, true, cond}
 use mathlib.Core.List.{List}
 use Prim.Native.Nat.{ℕ, _+_, _*_}
 use lib.ListN.{getD}
-use Rattle.finite.specs.Sum.{sum}
+use Rattle.finite.specs.Sum.{foldTo}
 use Rattle.finite.specs.Tests.{unless}
 use Rattle.finite.specs.Links.{links}
 use Rattle.aggregate.specs.declared.Config.{Config}
 use Rattle.aggregate.specs.declared.Cell.{Cell}
-use Rattle.aggregate.specs.Aggregate.{rootOf, isClassCount, isMissing}
+use Rattle.aggregate.specs.Aggregate.{isClassCount, cellGathered, cellJoined, emptyCell}
 use Rattle.topology.specs.declared.Fault.the-variants.{Classes}
 use Rattle.topology.specs.Acceptance.{faultNumbers, linked, verdictOf, linksOf}
 use Rattle.linemap.specs.declared.Map.{Map}
 
--- what a net on this map is opened with
-abbrev pub configOf : Map → Config
-configOf m = record { k = m .k; classes = m .classes; desk = m .desk }
+-- what a net on this map is opened with; "The wave takes its way of joining counts as a number" (document 02, request 10)
+abbrev pub configOf : ℕ → Map → Config
+configOf way m = record { k = m .k; classes = m .classes; desk = m .desk; way = way }
 
 -- "A map handed over with c not 1 to 8 gets 2, before 3" (document 02, request 2): that number, or what comes after
 abbrev pub classesFirst : Map → List ℕ → List ℕ
@@ -23,11 +23,11 @@ classesFirst m rest = unless (isClassCount (m .classes)) (faultNumbers Classes) 
 
 -- "a map handed over goes 3, 7 to 10" (Causes and numbers), after 2, with 19 after 3 (document 02, request 5): the number with its values
 abbrev pub acceptance : Map → List ℕ
-acceptance m = classesFirst m (verdictOf (rootOf (configOf m)) (m .k) (m .neighbours))
+acceptance m = classesFirst m (verdictOf (m .desk) (m .k) (m .neighbours))
 
 -- "A link is an unordered pair; m counts them": 0 and m, or the number of the refusal
 abbrev pub linksIn : Map → List ℕ
-linksIn m = classesFirst m (linksOf (rootOf (configOf m)) (m .k) (m .neighbours))
+linksIn m = classesFirst m (linksOf (m .desk) (m .k) (m .neighbours))
 
 -- m of document 01, as a number
 abbrev pub linkCount : Map → ℕ
@@ -41,13 +41,12 @@ place i j = 8 * i + j
 abbrev pub countAt : Map → ℕ → ℕ → ℕ
 countAt m i j = getD (m .counts) (place i j) 0
 
--- "the sum over heads with a reading, together with how many had none" (document 02, request 1), of the stations that pass a test, in class j
-abbrev pub totalsOf : (ℕ → Bool) → Map → ℕ → Cell
-totalsOf chosen m j =
-    let added = sum (m .k) (λ i. cond (chosen i) (cond (isMissing (countAt m i j)) 0 (countAt m i j)) 0) in
-    let missing = sum (m .k) (λ i. cond (chosen i) (cond (isMissing (countAt m i j)) 1 0) 0) in
-    record { sum = added; missing = missing }
+-- "the sum over heads with a reading, together with how many had none" (document 02, request 1), of the stations that pass a test, in class j;
+-- "they are joined its way" (request 10)
+abbrev pub totalsOf : ℕ → (ℕ → Bool) → Map → ℕ → Cell
+totalsOf way chosen m j =
+    foldTo (cellJoined way) (emptyCell way) (m .k) (λ i. cond (chosen i) (cellGathered way (countAt m i j)) (emptyCell way))
 
--- of all stations: "each class reports its own total" (document 02, request 2)
-abbrev pub totals : Map → ℕ → Cell
-totals = totalsOf (λ i. true)
+-- of all stations: "each class reports its own total" (document 02, request 2), "the joining of all the map's readings" (request 10)
+abbrev pub totals : ℕ → Map → ℕ → Cell
+totals way = totalsOf way (λ i. true)

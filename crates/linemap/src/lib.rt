@@ -11,6 +11,7 @@ ghost use Rattle.linemap.specs.Maps;
 ghost use Rattle.linemap.specs.Stored;
 ghost use Rattle.linemap.specs.Reading;
 ghost use Rattle.linemap.specs.Writing;
+ghost use Rattle.linemap.specs.Openings;
 
 mod numbers;
 mod reading;
@@ -80,6 +81,19 @@ pub enum WriteAnswer {
     Refused(WriteFault),
 }
 
+// Why no net is opened on a map.
+pub enum FreshFault {
+    // The map is not accepted.
+    Unfit(Fault),
+    // There is no such way of joining counts.
+    Way,
+}
+
+pub enum FreshAnswer {
+    Opened,
+    Refused(FreshFault),
+}
+
 // The map of no stations, which stands where none was read.
 pub fn empty() -> Map
     ensures { λ r. ⌜ r ≡ Reading.emptyMap ⌝ }
@@ -108,14 +122,15 @@ pub fn stored_length(classes: u8, k: u8) -> usize
     row_length(classes) * (k as usize) + TRAILER_LENGTH
 }
 
-// What a net on this map is opened with.
-pub fn config(m: Map) -> Config
-    ensures { λ r. ⌜ r ≡ Maps.configOf m ⌝ }
+// What a net on this map is opened with, to join counts the way.
+pub fn config(m: Map, way: u8) -> Config
+    ensures { λ r. ⌜ r ≡ Maps.configOf way m ⌝ }
 {
     Config {
         k: m.k,
         classes: m.classes,
         desk: m.desk,
+        way: way,
     }
 }
 
@@ -126,9 +141,22 @@ pub fn accept(m: Map) -> Verdict
     if !aggregate::is_class_count(m.classes as u64) {
         return Verdict::Refused(Fault::Classes);
     }
-    let root = aggregate::root(config(m));
     let sets = m.neighbours;
-    topology::accept(root, m.k, &sets)
+    topology::accept(m.desk, m.k, &sets)
+}
+
+// Whether a net is opened on a map, to join counts the way: the map's numbers, then 12.
+pub fn open(m: Map, way: u8) -> FreshAnswer
+    ensures { λ r. ⌜ Openings.freshNumbers r ≡ Openings.openable way m ⌝ }
+{
+    let verdict = accept(m);
+    if let Verdict::Refused(fault) = verdict {
+        return FreshAnswer::Refused(FreshFault::Unfit(fault));
+    }
+    if !aggregate::is_way(way) {
+        return FreshAnswer::Refused(FreshFault::Way);
+    }
+    FreshAnswer::Opened
 }
 
 // The number of links of an accepted map.
@@ -138,9 +166,8 @@ pub fn links(m: Map) -> LinksAnswer
     if !aggregate::is_class_count(m.classes as u64) {
         return LinksAnswer::Refused(Fault::Classes);
     }
-    let root = aggregate::root(config(m));
     let sets = m.neighbours;
-    topology::links(root, m.k, &sets)
+    topology::links(m.desk, m.k, &sets)
 }
 
 // Whether a lot fits its 48 bits.

@@ -25,8 +25,8 @@ use Rattle.stations.specs.Stations.{areWellFormed}
 use Rattle.stations.proofs.Laws.{config-valid, well-formed-at}
 use Rattle.topology.specs.Answer.{accepted}
 use Rattle.linemap.specs.declared.Map.{Map}
-use Rattle.linemap.specs.Maps.{configOf, acceptance}
-use Rattle.linemap.proofs.Accepted.{map-web, map-root}
+use Rattle.linemap.specs.Openings.{openable}
+use Rattle.linemap.proofs.Accepted.{map-web, map-desk, open-accepted}
 use Rattle.mail.specs.declared.Mailbox.{Mailbox}
 use Rattle.mail.specs.declared.Mailbox.the-variants.{Empty, Full}
 use Rattle.mail.specs.declared.Message.the-variants.{Start, Answer}
@@ -97,6 +97,6 @@ taken-fits t from (Full Start) v s h g =
     by-bool (eqb (s .state) asleep) (λ e. rw e (bounded-fits t (s .held) h)) (λ e. rw e (bounded-fits t (s .held) h))
 taken-fits t from (Full Answer) v s h g = joined-fits t (s .held) v h g
 
--- the root of an accepted map has a place
-pub root-low : (m : Map) → acceptance m ≡ accepted → rootOf (configOf m) < 64
-root-low m e = omega (arith, map-web m (rw e) .few-stations, map-root m (rw e))
+-- the root of a map on which a net is opened has a place
+pub root-low : (way : ℕ) (m : Map) → openable way m ≡ accepted → m .desk < 64
+root-low way m e = let ok = open-accepted way m e in omega (arith, map-web m ok .few-stations, map-desk m ok)

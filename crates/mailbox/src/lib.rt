@@ -1,6 +1,7 @@
 // Stations with mail (document 01, "Stations with mail"): a message waits in a mailbox until it is delivered. The words of stations and
 // mailboxes are lent, and no call copies them.
 use aggregate::Config;
+use linemap::FreshAnswer;
 use linemap::Map;
 use refusal::Refusal;
 use schedule::Answer;
@@ -8,7 +9,6 @@ use schedule::Ran;
 use schedule::Step;
 use schedule::rows::Drawn;
 use station::Station;
-use topology::Verdict;
 ghost use mathlib.Core.Path.{_≡_};
 ghost use mathlib.Core.Bool.{true, false, _||_};
 ghost use Prim.Native.Nat.{_<_, _≤_};
@@ -54,20 +54,20 @@ fn put_fresh(
     mail::post_starts(boxes, root, neighbours[root as usize]);
 }
 
-// The fresh net of an accepted map; any other opens none.
-pub fn fresh(m: Map, line: &mut [u64; 705], boxes: &mut [u64; 36992]) -> Verdict
-    ensures opening { λ r. ⌜ openingOf r (netOf (now (line .exit)) (now (boxes .exit))) ≡ mailboxOpening m (netOf (now (line .entry)) (now (boxes .entry))) ⌝ }
+// The fresh net of an accepted map, to join counts the way; any other map and any other way opens none.
+pub fn fresh(m: Map, way: u8, line: &mut [u64; 705], boxes: &mut [u64; 36992]) -> FreshAnswer
+    ensures opening { λ r. ⌜ openingOf r (netOf (now (line .exit)) (now (boxes .exit))) ≡ mailboxOpening way m (netOf (now (line .entry)) (now (boxes .entry))) ⌝ }
     ensures spare { λ r. ⌜ spareIn (now (line .exit)) ≡ spareIn (now (line .entry)) ⌝ }
 {
-    let verdict = linemap::accept(m);
-    if let Verdict::Refused(fault) = verdict {
-        return Verdict::Refused(fault);
+    let answer = linemap::open(m, way);
+    if let FreshAnswer::Refused(fault) = answer {
+        return FreshAnswer::Refused(fault);
     }
-    let t = linemap::config(m);
+    let t = linemap::config(m, way);
     let counts = m.counts;
     let neighbours = m.neighbours;
     put_fresh(line, boxes, t, counts, neighbours);
-    Verdict::Accepted
+    FreshAnswer::Opened
 }
 
 // Whether the posted sums of a sender are bounded. Most senders have posted none; eight receivers to whom no answer waits are passed by one test.

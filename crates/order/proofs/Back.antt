@@ -18,7 +18,8 @@ use Rattle.wave.specs.internal.Graph.{Graph}
 use Rattle.wave.specs.internal.Wave.{State, fresh, next, Weak}
 use Rattle.wave.specs.internal.Wave as wave
 use Rattle.wave.specs.internal.Claim.{Runs, reached, WaveClaim}
-use Rattle.wave.proofs.Invariant.{Inv, fresh-inv, keep, root-holds-total}
+use Rattle.wave.proofs.Invariant.{Inv, root-holds-total}
+use Rattle.wave.proofs.Gathering.{fresh-inv, keep}
 use Rattle.wave.proofs.Trace.{no-step}
 use Rattle.schedule.specs.declared.Step.{Step}
 use Rattle.schedule.specs.Rules.{Rules}
@@ -28,12 +29,13 @@ use Rattle.schedule.proofs.Listing.{Allowed}
 use Rattle.order.specs.internal.Back.{isTell, waveSteps, tellsOf}
 use Rattle.order.proofs.Kind.{Ties}
 
--- what is read of a net with carrying back: the net below, with told stations taken as finished; who is told; what each keeps; whether the
--- root has reported, and what it holds
+-- what is read of a net with carrying back: the net below, with told stations taken as finished; who is told; what each keeps, and keeps at first;
+-- whether the root has reported, and what it holds
 pub record Reads (Base Net A : Type 0) : Type 0 where
   pub plain : Net → Base
   pub told : Net → ℕ → Bool
   pub kept : Net → ℕ → A
+  pub unkept : A
   pub done : Net → Bool
   pub held : Net → A
 
@@ -54,11 +56,11 @@ pub record Tells {Base Net A : Type 0} (X : Reads Base Net A) (g : Graph) (paren
   pub no-root : q ≡ g .root → ⊥
   pub parent-is : parent (X .plain c) q ≡ p
 
--- who is told was told after the report, and keeps the total; the others keep nothing
+-- who is told was told after the report, and keeps the total; the others keep what they did at first
 pub record Kept {Base Net A : Type 0} (X : Reads Base Net A) (g : Graph) (M : CommMonoid A) (counts : ℕ → A) (c : Net) (S : State A) : Type 0 where
   pub after : (x : ℕ) → x < g .size → X .told c x ≡ true → S .reported ≡ true
   pub root-untold : X .told c (g .root) ≡ false
-  pub totals : (x : ℕ) → x < g .size → X .kept c x ≡ cond (X .told c x) (sumTo M (g .size) counts) (M .unit)
+  pub totals : (x : ℕ) → x < g .size → X .kept c x ≡ cond (X .told c x) (sumTo M (g .size) counts) (X .unkept)
 
 -- how many are told
 abbrev pub toldCount : {Base Net A : Type 0} → Reads Base Net A → Graph → Net → ℕ
@@ -74,7 +76,7 @@ pub record Carries {Base Net A : Type 0} (B : Rules Base) (C : Rules Net) (tell 
   pub start-plain : X .plain start ≡ opened
   pub start-right : Right start
   pub start-told : (x : ℕ) → x < g .size → X .told start x ≡ false
-  pub start-kept : (x : ℕ) → x < g .size → X .kept start x ≡ M .unit
+  pub start-kept : (x : ℕ) → x < g .size → X .kept start x ≡ X .unkept
   -- what the root shows
   pub held-is : (c : Net) → Right c → X .held c ≡ held (X .plain c)
   pub done-is : (c : Net) (S : State A) → T .Stands (X .plain c) S → Inv g M counts S → X .told c (g .root) ≡ false → X .done c ≡ S .reported
@@ -137,7 +139,7 @@ module _ {Base Net A : Type 0} (B : Rules Base) (C : Rules Net) (tell : ℕ) (g 
             record {
               after = λ x l t. clash t (K .start-told x l);
               root-untold = K .start-told (g .root) (g .root-in);
-              totals = λ x l. K .start-kept x l ∙ sym (ap (λ (b : Bool). cond b (sumTo M (g .size) counts) (M .unit)) (K .start-told x l));
+              totals = λ x l. K .start-kept x l ∙ sym (ap (λ (b : Bool). cond b (sumTo M (g .size) counts) (X .unkept)) (K .start-told x l));
             };
       }
 
@@ -156,7 +158,7 @@ module _ {Base Net A : Type 0} (B : Rules Base) (C : Rules Net) (tell : ℕ) (g 
       let t : X .told c p ≡ true = sym (ap (λ (b : Bool). cond b (X .done c) (X .told c p)) e) ∙ k in
       ap (λ (b : Bool). cond b (X .held c) (X .kept c p)) e
       ∙ a .keeps .totals p l
-      ∙ ap (λ (b : Bool). cond b (sumTo M (g .size) counts) (M .unit)) t)
+      ∙ ap (λ (b : Bool). cond b (sumTo M (g .size) counts) (X .unkept)) t)
 
   module _ (c : Net) (S : State A) (a : At c S) (s : Step) (al : Allowed C c s) where
     module _ (w : isTell tell s ≡ false) where
@@ -190,7 +192,7 @@ module _ {Base Net A : Type 0} (B : Rules Base) (C : Rules Net) (tell : ℕ) (g 
                   after = λ x l t. clash t (still-none x l);
                   root-untold = still-none (g .root) (g .root-in);
                   totals = λ x l. K .wave-kept c s x w ∙ a .keeps .totals x l
-                      ∙ ap (λ (b : Bool). cond b (sumTo M (g .size) counts) (M .unit)) (sym (told-same x l));
+                      ∙ ap (λ (b : Bool). cond b (sumTo M (g .size) counts) (X .unkept)) (sym (told-same x l));
                 };
           }
 
@@ -221,11 +223,11 @@ module _ {Base Net A : Type 0} (B : Rules Base) (C : Rules Net) (tell : ℕ) (g 
                       (λ e.
                       ap (λ (b : Bool). cond b (knownIn X (g .root) c (s .sender)) (X .kept c x)) e
                       ∙ knower-total c S a (s .sender) (tells .sender-low) (tells .sender-knows)
-                      ∙ sym (ap (λ (b : Bool). cond b (sumTo M (g .size) counts) (M .unit)) (told-is x ∙ ap (λ (b : Bool). b || X .told c x) e)))
+                      ∙ sym (ap (λ (b : Bool). cond b (sumTo M (g .size) counts) (X .unkept)) (told-is x ∙ ap (λ (b : Bool). b || X .told c x) e)))
                       (λ e.
                       ap (λ (b : Bool). cond b (knownIn X (g .root) c (s .sender)) (X .kept c x)) e
                       ∙ a .keeps .totals x l
-                      ∙ sym (ap (λ (b : Bool). cond b (sumTo M (g .size) counts) (M .unit)) (told-is x ∙ ap (λ (b : Bool). b || X .told c x) e)));
+                      ∙ sym (ap (λ (b : Bool). cond b (sumTo M (g .size) counts) (X .unkept)) (told-is x ∙ ap (λ (b : Bool). b || X .told c x) e)));
                 };
           }
 

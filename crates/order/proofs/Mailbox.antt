@@ -15,6 +15,7 @@ use Rattle.bitset.specs.Set.{member}
 use Rattle.aggregate.specs.declared.Config.{Config}
 use Rattle.aggregate.specs.declared.Cell.{Cell}
 use Rattle.aggregate.specs.declared.Aggregate.{Aggregate}
+use Rattle.aggregate.specs.Ways.{isWay}
 use Rattle.aggregate.specs.Aggregate.{rootOf, isClassCount, bounded}
 use Rattle.aggregate.specs.internal.Joining.{cells, joining}
 use Rattle.wave.specs.internal.Wave.{State, next, Weak}
@@ -29,13 +30,13 @@ use Rattle.mailbox.specs.Net.{Net, station, areBounded, wellFormed, freshNet}
 use Rattle.mailbox.specs.Rules.{rules}
 use Rattle.mailbox.proofs.Starting.{fresh-shaped, fresh-box}
 use Rattle.order.proofs.Kind.{Ties}
-use Rattle.order.proofs.Stations.{viewOf, line, Places, reading, fresh-view, fresh-places, fresh-parents, stations-formed, part-of-total}
+use Rattle.order.proofs.Stations.{viewOf, line, Places, reading, fresh-view, fresh-places, fresh-parents, stations-formed, part-bounded}
 use Rattle.order.proofs.View.{Fresh}
 use Rattle.order.proofs.Mailing.{answer, MailFresh, MailFormed}
 use Rattle.order.proofs.MailingRefines.{Mails, mail-sound, mail-keeps, mail-live, mail-fresh, mail-formed}
 use Rattle.order.proofs.MailboxSteps.{toBox, view, act, label-act, Good, may-of, does-of, good-of, can-of}
 
-module _ (t : Config) (counts neighbours : List ℕ) (web : Web (rootOf t) (t .k) neighbours) (c : isClassCount (t .classes) ≡ true)
+module _ (t : Config) (counts neighbours : List ℕ) (web : Web (rootOf t) (t .k) neighbours) (c : (isClassCount (t .classes) ≡ true) × (isWay (t .way) ≡ true))
     (small : (i : ℕ) → getD counts i 0 < 2 ^ 32) where
   abbrev opened : Net
   opened = freshNet t counts neighbours
@@ -87,7 +88,7 @@ module _ (t : Config) (counts neighbours : List ℕ) (web : Web (rootOf t) (t .k
   box-bounded (Full Start) v h = refl
   box-bounded (Full Answer) v h = h refl
 
-  pub formed-of : (n : Net) → Good t neighbours web n → MailFormed (line t neighbours web) joining (reading t counts) (view t n) → wellFormed n ≡ true
+  pub formed-of : (n : Net) → Good t neighbours web n → MailFormed (line t neighbours web) (joining (t .way)) (reading t counts) (view t n) → wellFormed n ≡ true
   unfolding wellFormed areBounded
   formed-of n G F =
       rw (G .config-is, stations-formed t counts neighbours web c small (n .stations) (G .places) (F .stations))
@@ -95,14 +96,14 @@ module _ (t : Config) (counts neighbours : List ℕ) (web : Web (rootOf t) (t .k
       all-below (λ r. eqb x r || mailboxBounded t (boxAt (n .boxes) x r) (broughtAt t (n .boxes) x r)) (t .k) (λ y m.
       let v = broughtAt t (n .boxes) x y in
       or-right (eqb x y) (mailboxBounded t (boxAt (n .boxes) x y) v)
-      (box-bounded (boxAt (n .boxes) x y) v (λ e. let part = F .posted x y (cells t v) l m e in part-of-total t counts neighbours web c small v (part .0) (part .1))))))
+      (box-bounded (boxAt (n .boxes) x y) v (λ e. part-bounded t counts neighbours web c small v (F .posted x y (cells t v) l m e))))))
 
   -- a net that stands for a state of the wave is in form
   pub formed : (n : Net) (S : State (ℕ → Cell)) → Good t neighbours web n × Mails (line t neighbours web) (view t n) S
-      → Inv (line t neighbours web) joining (reading t counts) S → wellFormed n ≡ true
-  formed n S R I = formed-of n (R .0) (mail-formed (line t neighbours web) joining (reading t counts) S I (view t n) (R .1))
+      → Inv (line t neighbours web) (joining (t .way)) (reading t counts) S → wellFormed n ≡ true
+  formed n S R I = formed-of n (R .0) (mail-formed (line t neighbours web) (joining (t .way)) (reading t counts) S I (view t n) (R .1))
 
-  abbrev pub ties : Ties rules (line t neighbours web) joining (reading t counts) opened (λ n. cells t (station n (rootOf t) .held))
+  abbrev pub ties : Ties rules (line t neighbours web) (joining (t .way)) (reading t counts) opened (λ n. cells t (station n (rootOf t) .held))
   ties =
       record {
         Stands = λ n S. Good t neighbours web n × Mails (line t neighbours web) (view t n) S;
@@ -111,13 +112,13 @@ module _ (t : Config) (counts neighbours : List ℕ) (web : Web (rootOf t) (t .k
         formed = formed;
         sound = λ n S m R I a.
             subst (Weak (line t neighbours web) S) (label-act m)
-            (mail-sound (line t neighbours web) joining (reading t counts) S I (view t n) (R .1) (act m) (may-of t neighbours web n m (R .0) a));
+            (mail-sound (line t neighbours web) (joining (t .way)) (reading t counts) S I (view t n) (R .1) (act m) (may-of t neighbours web n m (R .0) a));
         keeps = λ n S m R I a. (
           good-of t neighbours web n m (R .0) a,
-          subst (λ (s : wave.Step). Mails (line t neighbours web) (view t (rules .apply n m)) (next (line t neighbours web) joining S s)) (label-act m)
-              (mail-keeps (line t neighbours web) joining (reading t counts) S I (view t n) (view t (rules .apply n m)) (R .1) (act m) (may-of t neighbours web n m (R .0) a) (does-of t neighbours web n m (R .0) a (formed n S R I))),
+          subst (λ (s : wave.Step). Mails (line t neighbours web) (view t (rules .apply n m)) (next (line t neighbours web) (joining (t .way)) S s)) (label-act m)
+              (mail-keeps (line t neighbours web) (joining (t .way)) (reading t counts) S I (view t n) (view t (rules .apply n m)) (R .1) (act m) (may-of t neighbours web n m (R .0) a) (does-of t neighbours web n m (R .0) a (formed n S R I))),
         );
         live = λ n S s R I st.
-            let a = mail-live (line t neighbours web) joining (reading t counts) S I (view t n) (R .1) s st in
+            let a = mail-live (line t neighbours web) (joining (t .way)) (reading t counts) S I (view t n) (R .1) s st in
             can-of t neighbours web n (R .0) (a .0) (a .1);
       }

@@ -76,7 +76,7 @@ may-takes s (Full Answer) v e (inr q) = clash refl (q .1)
 
 -- what taking a message makes of a station of k
 record Taken (t : Config) (s : Station) (from : ℕ) (b : Mailbox) (v : Aggregate) : Type 0 where
-  sum-is : cells t (taken t from b v s .held) ≡ received joining (cells t (s .held)) (toBox b (cells t v))
+  sum-is : cells t (taken t from b v s .held) ≡ received (joining (t .way)) (cells t (s .held)) (toBox b (cells t v))
   set-is : taken t from b v s .unstarted ≡ s .unstarted
   parent-is : taken t from b v s .parent ≡ cond (eqb (s .state) 0) from (s .parent)
   waits-is : taken t from b v s .waits ≡ pred (cond (eqb (s .state) 0) (sumTo addition (t .k) (λ h. indicator (member h (s .unstarted)))) (s .waits))
@@ -254,7 +254,7 @@ module _ (t : Config) (neighbours : List ℕ) (web : Web (rootOf t) (t .k) neigh
         ∙ ap (λ (c : Config). brings c x y (mustAnswer c r (after c)) (after c .parent) (after c .held)) (G .config-is)
 
     box-then : wellFormed n ≡ true → (x y : ℕ) → x < t .k → y < t .k
-        → toBox (boxAt (delivered n s r .boxes) x y) (cells t (broughtAt t (delivered n s r .boxes) x y)) ≡ boxThen web-graph joining (view t n) s r x y
+        → toBox (boxAt (delivered n s r .boxes) x y) (cells t (broughtAt t (delivered n s r .boxes) x y)) ≡ boxThen web-graph (joining (t .way)) (view t n) s r x y
     box-then f x y h l =
         let answers = answersThen web-graph (view t n) r in
         let hx : x < 64 = omega (arith, web .few-stations) in
@@ -267,12 +267,12 @@ module _ (t : Config) (neighbours : List ℕ) (web : Web (rootOf t) (t .k) neigh
         (λ b. rw (a, b) (ap answer (cells-clipped t (R .held) ∙ T .sum-is)))
         (λ b. by-bool (eqb x r && (eqb (station n r .state) 0 && (member y (station n r .unstarted) && not (eqb y s)))) (λ c. rw (a, b, c)) (λ c. rw (a, b, c))))
 
-    delivers : wellFormed n ≡ true → Does web-graph joining (view t n) (deliver s r) (view t (delivered n s r))
+    delivers : wellFormed n ≡ true → Does web-graph (joining (t .way)) (view t n) (deliver s r) (view t (delivered n s r))
     delivers f =
         record {
           stations =
               record {
-                sums = λ x l. field-is (λ st. cells t (st .held)) (sumThen joining (view t n) s r) (kept (λ st. cells t (st .held)) refl ∙ T .sum-is) x;
+                sums = λ x l. field-is (λ st. cells t (st .held)) (sumThen (joining (t .way)) (view t n) s r) (kept (λ st. cells t (st .held)) refl ∙ T .sum-is) x;
                 sets = λ x y l. ap (member y) (set-kept x);
                 parents = λ x l. field-is (λ st. st .parent) (parentThen (view t n) s r) (kept (λ st. st .parent) refl ∙ T .parent-is) x;
                 waitings = λ x l. field-is (λ st. st .waits) (waitsThen web-graph (view t n) r) (kept (λ st. st .waits) refl ∙ T .waits-is) x;
@@ -315,7 +315,7 @@ module _ (t : Config) (neighbours : List ℕ) (web : Web (rootOf t) (t .k) neigh
         (λ q. (rw (eq-eqb x root q)) ∙ h ∙ ap (λ (z : ℕ). f (station n z)) (sym q))
         (λ q. rw (ne-eqb x root q))
 
-    reports : Does web-graph joining (view t n) close (view t (reported n root))
+    reports : Does web-graph (joining (t .way)) (view t n) close (view t (reported n root))
     reports =
         record {
           stations =
@@ -344,9 +344,9 @@ module _ (t : Config) (neighbours : List ℕ) (web : Web (rootOf t) (t .k) neigh
         }
 
   module _ (n : Net) (m : Step) (G : Good n) (a : Allowed rules n m) where
-    pub does-of : wellFormed n ≡ true → Does web-graph joining (view t n) (act m) (view t (rules .apply n m))
+    pub does-of : wellFormed n ≡ true → Does web-graph (joining (t .way)) (view t n) (act m) (view t (rules .apply n m))
     does-of f =
-        by-step n m G a (λ b n′. Does web-graph joining (view t n) b (view t n′))
+        by-step n m G a (λ b n′. Does web-graph (joining (t .way)) (view t n) b (view t n′))
         (λ s r hs hr ne e. delivers n G s r hs hr ne e f)
         (λ e. reports n G)
 

@@ -1,15 +1,14 @@
 -- Stations that meet carry totals back, on every accepted map: with told stations taken as finished their nets are those of demand 3. What is
 -- kept is a total, so bounded. Assumes nothing.
-use mathlib.Core.Path.{_≡_, refl, sym, ap, ap₂, _∙_, subst, fun-ext}
+use mathlib.Core.Path.{_≡_, refl, sym, ap, ap₂, _∙_, subst}
 use mathlib.Core.Bool.{Bool, true, false, _&&_, _||_, cond}
 use mathlib.Core.List.{List}
 use Prim.Native.Nat.{ℕ, _^_, _<_}
 use native.Mathlib.Omega.{arith}
 use lib.ListN.{getD, length, length-map, length-set, length-replicate, getD-replicate}
 use lib.Dec.{eqb, ltb}
-use borrow.Author.Tests.{eq-eqb, ne-eqb, ltb-true}
-use Rattle.finite.specs.Sum.{sum}
-use Rattle.finite.specs.internal.Monoid.{addition, sumTo}
+use borrow.Author.Tests.{eq-eqb, ne-eqb}
+use Rattle.finite.specs.internal.Monoid.{sumTo}
 use Rattle.finite.specs.Below.{allBelow}
 use Rattle.finite.proofs.Cases.{clash, by-bool, by-eq, eqb-self}
 use Rattle.finite.proofs.Below.{all-below}
@@ -19,9 +18,10 @@ use Rattle.aggregate.specs.declared.Config.{Config}
 use Rattle.aggregate.specs.declared.Cell.{Cell}
 use Rattle.aggregate.specs.declared.Reading.{Reading}
 use Rattle.aggregate.specs.declared.Aggregate.{Aggregate}
-use Rattle.aggregate.specs.Aggregate.{rootOf, isClassCount, used, bounded, cell, nothing, absent, clipped}
-use Rattle.aggregate.specs.internal.Joining.{pair, cells, joining}
-use Rattle.aggregate.proofs.Laws.{cells-clipped}
+use Rattle.aggregate.specs.Ways.{isWay}
+use Rattle.aggregate.specs.Aggregate.{rootOf, isClassCount, bounded, cell, emptyCell, nothing, absent, clipped}
+use Rattle.aggregate.specs.internal.Joining.{joiningCells, cells, joining}
+use Rattle.aggregate.proofs.Laws.{cells-clipped, bounded-same, nothing-bounded}
 use Rattle.wave.specs.internal.Graph.{Graph}
 use Rattle.wave.specs.internal.Wave.{State}
 use Rattle.wave.proofs.Invariant.{Inv, spent, all-awake}
@@ -46,7 +46,7 @@ use Rattle.order.specs.internal.Back.{isTell}
 use Rattle.order.specs.internal.Rendezvous.{RendezvousCarried, CarriedConserved}
 use Rattle.order.proofs.Local.{stateOf, heard-missing}
 use Rattle.order.proofs.MeetingRefines.{Meets}
-use Rattle.order.proofs.Stations.{line, reading, fresh-view, part-of-total}
+use Rattle.order.proofs.Stations.{line, reading, fresh-view, part-bounded}
 use Rattle.order.proofs.Maps.{classes-of, web-of}
 use Rattle.order.proofs.RendezvousSteps.{view, Good}
 use Rattle.order.proofs.Rendezvous.{ties}
@@ -65,16 +65,7 @@ fresh-settled t r neighbours i =
     (λ l. by-bool (eqb i (rootOf t)) (λ e. rw (l, e)) (λ e. rw (l, e)))
     (λ l. rw l)
 
--- nothing is joined of nothing
-cells-nothing : (t : Config) → cells t nothing ≡ joining .unit
-unfolding cells nothing
-cells-nothing t =
-    fun-ext (λ i.
-    by-bool (ltb i (used t))
-    (λ e. let low = ltb-true i (used t) e in rw e (pair (getD-replicate 8 i 0 0 (omega (arith, low))) (getD-replicate 8 i 0 0 (omega (arith, low)))))
-    (λ e. rw e))
-
-module _ (t : Config) (counts neighbours : List ℕ) (web : Web (rootOf t) (t .k) neighbours) (classes : isClassCount (t .classes) ≡ true)
+module _ (t : Config) (counts neighbours : List ℕ) (web : Web (rootOf t) (t .k) neighbours) (classes : (isClassCount (t .classes) ≡ true) × (isWay (t .way) ≡ true))
     (small : (i : ℕ) → getD counts i 0 < 2 ^ 32) where
   abbrev g : Graph
   g = line t neighbours web
@@ -86,7 +77,7 @@ module _ (t : Config) (counts neighbours : List ℕ) (web : Web (rootOf t) (t .k
   start = freshNet true t counts neighbours
 
   abbrev total : ℕ → Cell
-  total = sumTo joining (t .k) read
+  total = sumTo (joining (t .way)) (t .k) read
 
   abbrev reads : Reads Net Net (ℕ → Cell)
   reads =
@@ -94,6 +85,7 @@ module _ (t : Config) (counts neighbours : List ℕ) (web : Web (rootOf t) (t .k
         plain = plain;
         told = isTold;
         kept = λ c i. cells t (keptAt c i);
+        unkept = cells t nothing;
         done = λ c. eqb (station c (rootOf t) .state) 2;
         held = λ c. cells t (station c (rootOf t) .held);
       }
@@ -116,9 +108,9 @@ module _ (t : Config) (counts neighbours : List ℕ) (web : Web (rootOf t) (t .k
       ap (λ (n : ℕ). eqb n told) (fresh-view t counts neighbours web .states x l)
       ∙ by-bool (eqb x (rootOf t)) (λ e. rw e) (λ e. rw e)
 
-  start-kept : (x : ℕ) → x < t .k → cells t (keptAt start x) ≡ joining .unit
+  start-kept : (x : ℕ) → x < t .k → cells t (keptAt start x) ≡ cells t nothing
   unfolding freshNet
-  start-kept x l = ap (cells t) (getD-replicate 64 x nothing absent (omega (arith, web .few-stations))) ∙ cells-nothing t
+  start-kept x l = ap (cells t) (getD-replicate 64 x nothing absent (omega (arith, web .few-stations)))
 
   start-right : Right start
   unfolding freshNet
@@ -135,7 +127,7 @@ module _ (t : Config) (counts neighbours : List ℕ) (web : Web (rootOf t) (t .k
     state-is : (x : ℕ) → x < t .k → cond (eqb (station c x .state) told) 2 (station c x .state) ≡ stateOf g S (spent g S) x
     state-is x l = sym (ap (λ (s : Station). s .state) (at-plain c x)) ∙ R .stations .states x l
 
-    module _ (I : Inv g joining read S) where
+    module _ (I : Inv g (joining (t .way)) read S) where
       done-is : isTold c (rootOf t) ≡ false → eqb (station c (rootOf t) .state) 2 ≡ S .reported
       done-is u =
           let r = rootOf t in
@@ -147,7 +139,7 @@ module _ (t : Config) (counts neighbours : List ℕ) (web : Web (rootOf t) (t .k
         -- after the report every station has finished, and waits for nothing
         all-finished : (x : ℕ) → x < t .k → stateOf g S (spent g S) x ≡ 2
         all-finished x l =
-            let up = all-awake g joining read S I (I .ended rep) x (g .joined x l) in
+            let up = all-awake g (joining (t .way)) read S I (I .ended rep) x (g .joined x l) in
             by-eq x (rootOf t)
             (λ e. rw (up, eq-eqb x (rootOf t) e, rep))
             (λ n.
@@ -163,7 +155,7 @@ module _ (t : Config) (counts neighbours : List ℕ) (web : Web (rootOf t) (t .k
             ∙ R .stations .waitings x l
             ∙ heard-missing g S x (λ h a. I .ended rep h x a)
 
-      formed-of : Right c → Kept reads g joining read c S → wellFormed c ≡ true
+      formed-of : Right c → Kept reads g (joining (t .way)) read c S → wellFormed c ≡ true
       unfolding carryingWell toldWell
       formed-of right K =
           formed-back c (eq-eqb (c .carrying) 1 (right .back))
@@ -180,12 +172,8 @@ module _ (t : Config) (counts neighbours : List ℕ) (web : Web (rootOf t) (t .k
           (λ e. rw e) in
           ap₂ (λ (a b : Bool). a && b) well
           (by-bool (isTold c i)
-          (λ e.
-          part-of-total t counts neighbours web classes small (keptAt c i) (joining .unit)
-          (joining .comm (cells t (keptAt c i)) (joining .unit) ∙ joining .unit-add (cells t (keptAt c i)) ∙ K .totals i l ∙ ap (λ (b : Bool). cond b total (joining .unit)) e))
-          (λ e.
-          part-of-total t counts neighbours web classes small (keptAt c i) total
-          (ap (λ (x : ℕ → Cell). joining .add x total) (K .totals i l ∙ ap (λ (b : Bool). cond b total (joining .unit)) e) ∙ joining .unit-add total))))))
+          (λ e. part-bounded t counts neighbours web classes small (keptAt c i) (λ x. true, K .totals i l ∙ ap (λ (b : Bool). cond b total (cells t nothing)) e))
+          (λ e. bounded-same t (keptAt c i) nothing (K .totals i l ∙ ap (λ (b : Bool). cond b total (cells t nothing)) e) ∙ nothing-bounded t)))))
 
     -- a tell that is allowed
     tells-of : (s : Step) → Allowed rules c s → isTell tell s ≡ true → Tells reads g (λ n i. station n i .parent) c (s .sender) (s .receiver)
@@ -202,7 +190,7 @@ module _ (t : Config) (counts neighbours : List ℕ) (web : Web (rootOf t) (t .k
           parent-is = ap (λ (x : Station). x .parent) (at-plain c (s .receiver)) ∙ p .parent-is;
         }
 
-    can-tell : Right c → Inv g joining read S → S .reported ≡ true → (p q : ℕ) → Tells reads g (λ n i. station n i .parent) c p q → Allowed rules c (step tell p q)
+    can-tell : Right c → Inv g (joining (t .way)) read S → S .reported ≡ true → (p q : ℕ) → Tells reads g (λ n i. station n i .parent) c p q → Allowed rules c (step tell p q)
     can-tell right I rep p q x =
         allowed-tell c p q (eq-eqb (c .carrying) 1 (right .back))
         (subst (λ (u : Config). p < u .k) (sym config-is) (x .sender-low))
@@ -258,7 +246,7 @@ module _ (t : Config) (counts neighbours : List ℕ) (web : Web (rootOf t) (t .k
         long = ap (λ (d : Net). length (d .kept)) e ∙ length-set (c .kept) (s .receiver) _ ∙ r .long;
       }
 
-  pub carries-back : Carries rules rules tell g joining read (freshNet false t counts neighbours) (λ n. cells t (station n (rootOf t) .held))
+  pub carries-back : Carries rules rules tell g (joining (t .way)) read (freshNet false t counts neighbours) (λ n. cells t (station n (rootOf t) .held))
       (ties t counts neighbours web classes small) (λ n i. station n i .parent) start reads
   carries-back =
       record {
@@ -291,17 +279,17 @@ module _ (t : Config) (counts neighbours : List ℕ) (web : Web (rootOf t) (t .k
       }
 
 pub rendezvous-carried : RendezvousCarried
-rendezvous-carried m fits e =
-    let t = configOf m in
+rendezvous-carried way w m fits e =
+    let t = configOf way m in
     let web = web-of m e in
-    carried-back rules rules tell (line t (m .neighbours) web) joining (reading t (m .counts)) (freshNet false t (m .counts) (m .neighbours))
-    (λ n. cells t (station n (rootOf t) .held)) (ties t (m .counts) (m .neighbours) web (classes-of m e) (fits .counts)) (λ n i. station n i .parent)
-    (freshNet true t (m .counts) (m .neighbours)) _ (carries-back t (m .counts) (m .neighbours) web (classes-of m e) (fits .counts))
+    carried-back rules rules tell (line t (m .neighbours) web) (joining (t .way)) (reading t (m .counts)) (freshNet false t (m .counts) (m .neighbours))
+    (λ n. cells t (station n (rootOf t) .held)) (ties t (m .counts) (m .neighbours) web (classes-of m e, w) (fits .counts)) (λ n i. station n i .parent)
+    (freshNet true t (m .counts) (m .neighbours)) _ (carries-back t (m .counts) (m .neighbours) web (classes-of m e, w) (fits .counts))
 
 -- before the report no station is told, so what is not finished is so below
 pub carried-conserved : CarriedConserved
-carried-conserved m fits e calls none j l =
-    let t = configOf m in
+carried-conserved way w m fits e calls none j l =
+    let t = configOf way m in
     let web = web-of m e in
     let g = line t (m .neighbours) web in
     let read = reading t (m .counts) in
@@ -309,20 +297,17 @@ carried-conserved m fits e calls none j l =
     let start = freshNet true t (m .counts) (m .neighbours) in
     let held : Net → ℕ → Cell = λ n. cells t (station n (rootOf t) .held) in
     let parent : Net → ℕ → ℕ = λ n i. station n i .parent in
-    let T = ties t (m .counts) (m .neighbours) web (classes-of m e) (fits .counts) in
-    let K = carries-back t (m .counts) (m .neighbours) web (classes-of m e) (fits .counts) in
+    let T = ties t (m .counts) (m .neighbours) web (classes-of m e, w) (fits .counts) in
+    let K = carries-back t (m .counts) (m .neighbours) web (classes-of m e, w) (fits .counts) in
     let made = callsMade rules start calls in
     let end = callsNet rules start calls in
     let makes = calls-make rules start calls in
-    let S = state rules rules tell g joining read opened held T parent start _ K made end makes in
-    let at = here rules rules tell g joining read opened held T parent start _ K made end makes in
+    let S = state rules rules tell g (joining way) read opened held T parent start _ K made end makes in
+    let at = here rules rules tell g (joining way) read opened held T parent start _ K made end makes in
     let unreported : S .reported ≡ false =
-    indicator-zero (S .reported) (sym (times-is rules rules tell g joining read opened held T parent start _ K made end makes) ∙ none) in
+    indicator-zero (S .reported) (sym (times-is rules rules tell g (joining way) read opened held T parent start _ K made end makes) ∙ none) in
     let untold : (i : ℕ) → i < m .k → isTold end i ≡ false =
     λ i h. by-bool (isTold end i) (λ u. clash (at .keeps .after i h u) unreported) (λ f. f) in
-    let same : (f : Cell → ℕ) → sum (m .k) (λ i. cond (eqb (station end i .state) 2) 0 (f (cell (station end i .held) j)))
-    ≡ sum (m .k) (λ i. cond (eqb (station (plain end) i .state) 2) 0 (f (cell (station (plain end) i .held) j))) =
-    λ f. sum-ext addition (m .k) _ _ (λ i h.
-    ap (λ (s : Station). cond (eqb (s .state) 2) 0 (f (cell (s .held) j))) (sym (at-plain end i ∙ settled-untold (station end i) (untold i h)))) in
-    pair (same (λ x. x .sum)) (same (λ x. x .missing))
-    ∙ conserved-at m e (plain end) S (at .stands .1) (at .inv) unreported j l
+    sum-ext (joiningCells way) (m .k) _ _ (λ i h.
+    ap (λ (s : Station). cond (eqb (s .state) 2) (emptyCell way) (cell (s .held) j)) (sym (at-plain end i ∙ settled-untold (station end i) (untold i h))))
+    ∙ conserved-at way m e (plain end) S (at .stands .1) (at .inv) unreported j l

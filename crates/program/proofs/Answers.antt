@@ -7,7 +7,6 @@ use Prim.Native.Nat.{ℕ}
 use lib.ListN.{getD}
 use Rattle.finite.proofs.Cases.{clash}
 use Rattle.finite.specs.Links.{links}
-use Rattle.aggregate.specs.Aggregate.{rootOf}
 use Rattle.topology.specs.declared.Fault.{Fault}
 use Rattle.topology.specs.declared.LinksAnswer.{LinksAnswer}
 use Rattle.topology.specs.declared.LinksAnswer.the-variants.{Counted}
@@ -16,7 +15,7 @@ use Rattle.topology.specs.Answer.{accepted, isAccepted}
 use Rattle.topology.specs.Acceptance.{linked, verdictOf, linksNumbers, linksOf}
 use Rattle.topology.proofs.Answers.{fault-refuses}
 use Rattle.linemap.specs.declared.Map.{Map}
-use Rattle.linemap.specs.Maps.{configOf, acceptance, linksIn}
+use Rattle.linemap.specs.Maps.{acceptance, linksIn}
 use Rattle.linemap.proofs.Accepted.{map-classes}
 use Rattle.linemap.proofs.Answers.{read-fault-refuses}
 use Rattle.opening.specs.declared.OpenFault.{OpenFault}
@@ -37,7 +36,7 @@ module _ (m : Map) (good : acceptance m ≡ accepted) where
   unfolding linksOf
   links-are =
       let count = map-classes m (ap isAccepted good) in
-      let whole : verdictOf (rootOf (configOf m)) (m .k) (m .neighbours) ≡ accepted = rw count at good in
+      let whole : verdictOf (m .desk) (m .k) (m .neighbours) ≡ accepted = rw count at good in
       rw (count, whole)
 
   module _ (a : LinksAnswer) (e : linksNumbers a ≡ linksIn m) where

@@ -6,6 +6,7 @@ use mathlib.Core.List.{List, [], _∷_}
 use Prim.Native.Nat.{ℕ, zero, suc, _≤_}
 use native.Mathlib.Omega.{arith}
 use lib.ListN.{length, length-append}
+use Rattle.aggregate.specs.Ways.{summing}
 use Rattle.finite.specs.Sum.{foldTo}
 use Rattle.finite.specs.internal.Monoid.{addition, sumTo}
 use Rattle.finite.proofs.Cases.{by-eq}
@@ -48,13 +49,13 @@ pub few-lines : {s : List ℕ} {m : Map} {draws : ℕ} → Opens s m draws → F
 unfolding linesOf lotLines
 few-lines {s} {m} {draws} o fits =
     let ds : List ℕ = drawsIn s draws in
-    let made : List Step = runMade rules (freshOn false m) ds in
+    let made : List Step = runMade rules (freshOn false summing m) ds in
     let k-most = map-web m (ap isAccepted (o .good)) .few-stations in
     rw (o .opens) (omega (
       arith,
-      length-append (stepLines (freshOn false m) made) (closingLine m (length made) ∷ []),
-      length-steps (freshOn false m) made,
-      run-steps rules (freshOn false m) ds,
-      rendezvous-order m fits (o .good) .order .run-formula ds,
+      length-append (stepLines (freshOn false summing m) made) (closingLine m (length made) ∷ []),
+      length-steps (freshOn false summing m) made,
+      run-steps rules (freshOn false summing m) ds,
+      rendezvous-order summing refl m fits (o .good) .order .run-formula ds,
       links-le (m .k) (linked (m .k) (m .neighbours)) k-most,
     ))

@@ -9,12 +9,13 @@ use native.Mathlib.Numerals.{add-one}
 use native.Mathlib.Omega.{arith}
 use lib.ListN.{length, getD, take, drop, drop-of-length-le, length-drop, length-take}
 use lib.Seq.{drop-cons, drop-drop, take-all, length-sets}
+use Rattle.aggregate.specs.Ways.{summing}
 use Rattle.finite.proofs.Below.{length-tabulate, getD-tabulate}
 use Rattle.refusal.specs.declared.Refusal.{Refusal}
-use Rattle.topology.specs.declared.Verdict.{Verdict}
 use Rattle.linemap.specs.declared.Map.{Map}
+use Rattle.linemap.specs.declared.FreshAnswer.{FreshAnswer}
 use Rattle.linemap.specs.Reading.{ReadOutcome}
-use Rattle.linemap.specs.Openings.{Opening, openingBy, openingOf}
+use Rattle.linemap.specs.Openings.{Opening, openable, openingBy, openingOf}
 use Rattle.schedule.specs.declared.Step.{Step}
 use Rattle.schedule.specs.declared.Answer.{Answer}
 use Rattle.schedule.specs.declared.Answer.the-variants.{Made, Refused}
@@ -96,12 +97,12 @@ pub record Stands (s : List ℕ) (draws : ℕ) (l : List ℕ) (l′ : List ℕ) 
   pub put : Put l 0 (bytesOf (take made (linesOf s))) l′ end
 
 -- it starts from the fresh net
-pub stands-first : {s l : List ℕ} {m : Map} {draws : ℕ} {net : Net} (before : Net) (verdict : Verdict) → Opens s m draws
-    → openingOf verdict net ≡ meet.rendezvousOpening false m before
+pub stands-first : {s l : List ℕ} {m : Map} {draws : ℕ} {net : Net} (before : Net) (answer : FreshAnswer) → Opens s m draws
+    → openingOf answer net ≡ meet.rendezvousOpening false summing m before
     → Stands s draws l l net 0 0
-unfolding linesOf lotLines linesLeft openingBy flatMap
-stands-first {s} {l} {m} {draws} {net} before verdict o e =
-    let fresh : net ≡ meet.freshOn false m = ap (λ (x : Opening Net). x .net) e ∙ rw (o .good) in
+unfolding linesOf lotLines linesLeft openable openingBy flatMap
+stands-first {s} {l} {m} {draws} {net} before answer o e =
+    let fresh : net ≡ meet.freshOn false summing m = ap (λ (x : Opening Net). x .net) e ∙ rw (o .good) in
     record { few = omega arith; left = rw (o .opens, fresh, zero-add); put = record { bytes = refl; end = refl } }
 
 module _ {s l l′ : List ℕ} {draws : ℕ} {net : Net} {made end : ℕ} (w : Stands s draws l l′ net made end) where

@@ -5,6 +5,7 @@ use Prim.Native.Nat.{ℕ, _+_, _*_}
 use lib.Dec.{eqb, leb}
 use lib.ListN.{length, getD}
 use Rattle.finite.specs.Tests.{unless}
+use Rattle.aggregate.specs.Ways.{summing}
 use Rattle.aggregate.specs.Aggregate.{nothing}
 use Rattle.topology.specs.Answer.{isAccepted}
 use Rattle.linemap.specs.declared.Map.{Map}
@@ -44,16 +45,16 @@ stepLines net (s ∷ made) = stepShown net s ∷ stepLines (rules .apply net s) 
 
 -- a line that carries nothing
 abbrev pub plain : Map → Line → Shown
-plain m line = record { line = line; config = configOf m; held = nothing }
+plain m line = record { line = line; config = configOf summing m; held = nothing }
 
 -- "a closing line with the lot, the steps made and m"
 abbrev pub closingLine : Map → ℕ → Shown
 closingLine m steps = plain m (Closing (m .lot) steps (linkCount m))
 
--- "It runs stations that meet. Output is one line a step, then, also when the draws run out, a closing line"
+-- "It runs stations that meet"; "The program keeps way 0" (document 02, request 10). "Output is one line a step, then, also when the draws run out, a closing line"
 unfoldable pub lotLines : Map → List ℕ → List Shown
 lotLines m draws =
-    stepLines (freshOn false m) (runMade rules (freshOn false m) draws) ++ (closingLine m (length (runMade rules (freshOn false m) draws)) ∷ [])
+    stepLines (freshOn false summing m) (runMade rules (freshOn false summing m) draws) ++ (closingLine m (length (runMade rules (freshOn false summing m) draws)) ∷ [])
 
 -- the lines for an input; "A refusal prints .. and nothing else"
 unfoldable pub linesOf : List ℕ → List Shown

@@ -86,7 +86,7 @@ fn plain(m: Map, line: Line) -> Shown
 {
     Shown {
         line: line,
-        config: linemap::config(m),
+        config: linemap::config(m, aggregate::SUMMING),
         held: aggregate::empty(),
     }
 }
@@ -124,7 +124,7 @@ fn put_steps(input: &[u8], m: Map, draws: u16, out: &mut [u8]) -> Steps
 {
     let mut net = [0u64; 705];
     let mut totals = [0u64; 576];
-    let opened = rendezvous::fresh(m, false, &mut net, &mut totals);
+    let opened = rendezvous::fresh(m, aggregate::SUMMING, false, &mut net, &mut totals);
     let mut made: u16 = 0;
     let mut end: usize = 0;
     while made < draws {

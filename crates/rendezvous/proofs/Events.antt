@@ -8,11 +8,11 @@ use lib.ListN.{length}
 use lib.Seq.{getD-set-same}
 use lib.Dec.{eqb}
 use borrow.Author.Tests.{lt-ltb, eq-eqb, ne-eqb, eqb-true, eqb-false, not-true}
-use Rattle.finite.proofs.Cases.{clash, by-bool, by-eq, and-both, or-left, or-right}
+use Rattle.finite.proofs.Cases.{eqb-self, clash, by-bool, by-eq, and-both, or-left, or-right}
 use Rattle.bitset.specs.Set.{member}
 use Rattle.bitset.proofs.Laws.{within-lt, within-width}
 use Rattle.aggregate.specs.Aggregate.{rootOf, bounded, clipped}
-use Rattle.aggregate.proofs.Laws.{valid-parts, nothing-bounded, valid-of, root-below, root-desk, joined-alike, joined-clipped, bounded-alike, clipped-bounded}
+use Rattle.aggregate.proofs.Laws.{valid-parts, nothing-bounded, valid-of, root-below, joined-alike, joined-clipped, bounded-alike, clipped-bounded}
 use Rattle.station.specs.declared.Station.{Station}
 use Rattle.station.specs.declared.Process.{Process}
 use Rattle.station.specs.Events.{asleep, active, maySendStart, startSent, answerTaken, startedBy, mayReport, mayAnswer, ready, ended}
@@ -78,10 +78,6 @@ deaf : (n : ℕ) → eqb n told ≡ true → (eqb n asleep || eqb n active) ≡ 
 deaf n q = rw (ne-eqb n asleep (λ e. omega (arith, eqb-true n told q, e)), told-active n q)
 
 module _ (net : Net) (f : wellFormed net ≡ true) (full : length (net .stations) ≡ 64) where
-  -- a station by itself has the net's root, though 64 stands for k
-  same-root : (i : ℕ) → rootOf (processConfig (processAt net i)) ≡ rootOf (net .config)
-  same-root i = root-desk (processConfig (processAt net i)) ∙ sym (root-desk (net .config))
-
   -- a station of the net is a well-formed process of its own
   process-formed : (i : ℕ) → i < net .config .k → isTold net i ≡ false → wellFormedProcess (processAt net i) ≡ true
   unfolding wellFormedProcess
@@ -91,17 +87,17 @@ module _ (net : Net) (f : wellFormed net ≡ true) (full : length (net .stations
       let w = facts t i (station net i) (formed-at net f i l u) in
       let inside : i < 64 = omega arith in
       let v = valid-parts t (form-valid net f) in
-      let root : rootOf (processConfig (processAt net i)) < 64 = omega (arith, same-root i, v .2) in
-      rw (valid-of (processConfig (processAt net i)) refl (v .1) root, lt-ltb i 64 inside)
+      let root : rootOf t < 64 = omega (arith, v .2) in
+      rw (valid-of (processConfig (processAt net i)) refl (v .1) root (v .3), lt-ltb i 64 inside)
       (well-formed (processConfig (processAt net i)) i (station net i)
       (record {
         state-le = w .state-le;
         parent-below = omega (arith, w .parent-below);
         set-within = within-width (t .k) 64 (station net i .unstarted) (within-lt (t .k) (station net i .unstarted) (w .set-within)) most;
         waits-le = w .waits-le;
-        held-bounded = bounded-alike (processConfig (processAt net i)) t refl (station net i .held) ∙ w .held-bounded;
+        held-bounded = bounded-alike (processConfig (processAt net i)) t refl refl (station net i .held) ∙ w .held-bounded;
         not-in-set = w .not-in-set;
-        own-parent = λ e. w .own-parent e ∙ sym (same-root i);
+        own-parent = w .own-parent;
       }))
 
   module _ (j i : ℕ) (lj : j < net .config .k) (li : i < net .config .k) where
@@ -165,7 +161,7 @@ module _ (net : Net) (f : wellFormed net ≡ true) (full : length (net .stations
     -- it answers by itself just where it may in the net
     same-guard : mayAnswer (processConfig (processAt net j)) j (station net j) ≡ mayAnswer (net .config) j (station net j)
     unfolding mayAnswer
-    same-guard = ap (λ (root : ℕ). not (eqb j root) && ready (station net j)) (same-root j)
+    same-guard = refl
 
     told-answer : isTold net j ≡ true → mayAnswer (net .config) j (station net j) ≡ false
     unfolding mayAnswer ready
@@ -190,7 +186,7 @@ module _ (net : Net) (f : wellFormed net ≡ true) (full : length (net .stations
         let t = processConfig (processAt net i) in
         let held = held-bounded net f j lj in
         by-bool (mayAnswer (net .config) j (station net j))
-        (λ g. rw (process-formed j lj (answer-untold g), same-guard ∙ g) (clipped-bounded t (station net j .held) ∙ bounded-alike t (net .config) refl (station net j .held) ∙ held))
+        (λ g. rw (process-formed j lj (answer-untold g), same-guard ∙ g) (clipped-bounded t (station net j .held) ∙ bounded-alike t (net .config) refl refl (station net j .held) ∙ held))
         (λ g. by-bool (wellFormedProcess (processAt net j)) (λ w. rw (w, same-guard ∙ g) (nothing-bounded t)) (λ w. rw w (nothing-bounded t)))
 
     takes-answer : let v = sendAnswer (processAt net j) .given in
@@ -213,7 +209,7 @@ module _ (net : Net) (f : wellFormed net ≡ true) (full : length (net .stations
         (λ m.
         let sent = and-both (not (eqb j i) && fit) send (and-both (not (eqb j i) && fit && send) state (sym guard ∙ m) .0) .1 in
         let t = processConfig (processAt net i) in
-        rw (given-held sent, joined-clipped t (r .held) (s .held), joined-alike (net .config) t refl (r .held) (s .held)))
+        rw (given-held sent, joined-clipped t (r .held) (s .held), joined-alike (net .config) t refl refl (r .held) (s .held)))
 
   root-inside : rootOf (net .config) < net .config .k
   root-inside = root-below (net .config) (form-valid net f)
@@ -222,7 +218,7 @@ module _ (net : Net) (f : wellFormed net ≡ true) (full : length (net .stations
   unfolding process.report mayReport
   reports-event =
       let root = rootOf (net .config) in
-      let own : eqb root (rootOf (processConfig (processAt net root))) ≡ true = eq-eqb _ _ (sym (same-root root)) in
+      let own : eqb root (rootOf (processConfig (processAt net root))) ≡ true = eqb-self root in
       rw own (decided _ _ _ _ _ (process-formed root root-inside (root-untold net f)) refl refl)
 
   reports : Alone net report (rootOf (net .config)) (process.report (processAt net (rootOf (net .config))))

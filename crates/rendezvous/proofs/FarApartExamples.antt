@@ -9,7 +9,8 @@ use lib.ListN.{replicate}
 use Rattle.finite.specs.Below.{allBelow, each, tabulate}
 use Rattle.finite.proofs.Cases.{by-sum}
 use Rattle.bitset.specs.Set.{member, membersBelow, size, without, within}
-use Rattle.aggregate.specs.Aggregate.{rootOf, valid, nothing, cellBounded, bounded, cellGathered, gathered, cellJoined, joined, clipped}
+use Rattle.aggregate.specs.Ways.{sumJoined, emptySum}
+use Rattle.aggregate.specs.Aggregate.{valid, nothing, sumBounded, cellBounded, bounded, cellGathered, gathered, cellJoined, joined, clipped}
 use Rattle.refusal.specs.declared.Refusal.the-variants.{OutOfForm}
 use Rattle.station.specs.declared.Station.{Station}
 use Rattle.station.specs.Form as form
@@ -27,7 +28,7 @@ use Rattle.rendezvous.specs.FarApart.{Apart, after, BothAllowed, FarApar
 
 pub common-station : CommonStation (step wake 0 2) (step wake 1 2)
 unfolding flatMap stepOn wellFormed areWellFormed form.wellFormed allBelow allowed inRange mayStep assigned freshNet freshStations freshStation readingAt
-    tabulate each member membersBelow size without within rootOf valid bounded cellBounded gathered cellGathered nothing
+    tabulate each member membersBelow size without within valid bounded cellBounded sumBounded gathered cellGathered emptySum nothing
 common-station =
     record {
       both-allowed = (refl, refl);
@@ -53,20 +54,20 @@ tells-apart = apart (step tell 0 2) (step tell 1 3) (λ e. omega arith) (λ e. o
 abbrev line : Bool → Net
 line back =
     let counts = flatMap (λ (n : ℕ). n ∷ replicate 7 0) (1 ∷ 2 ∷ 3 ∷ 4 ∷ 5 ∷ []) in
-    freshNet back (record { k = 5; classes = 1; desk = 0 }) counts (6 ∷ 9 ∷ 17 ∷ 2 ∷ 4 ∷ [])
+    freshNet back (record { k = 5; classes = 1; desk = 0; way = 0 }) counts (6 ∷ 9 ∷ 17 ∷ 2 ∷ 4 ∷ [])
 
 -- after the desk's two wakes its neighbours may wake the ends
 ends-woken : (back : Bool) → FarApart (after (after (line back) (step wake 0 1)) (step wake 0 2)) (step wake 1 3) (step wake 2 4)
 unfolding flatMap stepOn wellFormed carryingWell toldWell areWellFormed form.wellFormed allBelow allowed inRange mayStep assigned freshNet freshStations freshStation
-    readingAt tabulate each member membersBelow size without within rootOf valid bounded cellBounded gathered cellGathered nothing
+    readingAt tabulate each member membersBelow size without within valid bounded cellBounded sumBounded gathered cellGathered emptySum nothing
 ends-woken true = record { both-allowed = (refl, refl); apart = wakes-apart; form-kept = record { formed = refl; formed-s = refl; formed-t = refl } }
 ends-woken false = record { both-allowed = (refl, refl); apart = wakes-apart; form-kept = record { formed = refl; formed-s = refl; formed-t = refl } }
 
 -- after the report and the first tell the desk and its told neighbour may tell
 ends-told : FarApart (runNet rules (line true) (replicate 10 0)) (step tell 0 2) (step tell 1 3)
 unfolding flatMap stepOn drawOn picked runNet listed select candidates range numbersFrom wellFormed carryingWell toldWell areWellFormed form.wellFormed allBelow
-    allowed inRange mayStep mayTell assigned toldBy freshNet freshStations freshStation readingAt tabulate each member membersBelow size without within rootOf valid
-    bounded cellBounded gathered cellGathered joined cellJoined clipped nothing
+    allowed inRange mayStep mayTell assigned toldBy freshNet freshStations freshStation readingAt tabulate each member membersBelow size without within valid
+    bounded cellBounded sumBounded gathered cellGathered emptySum joined cellJoined sumJoined clipped nothing
 ends-told = record { both-allowed = (refl, refl); apart = tells-apart; form-kept = record { formed = refl; formed-s = refl; formed-t = refl } }
 
 -- nets that were handed over: a desk and three other stations, which hold nothing and have no starts to send
@@ -75,7 +76,7 @@ other parent waits state = record { held = nothing; unstarted = 0; parent = pare
 
 abbrev handed : List Station → Net
 handed l =
-    record { config = record { k = 4; classes = 1; desk = 0 }; stations = l ++ replicate 60 blank; carrying = 1; kept = replicate 64 nothing }
+    record { config = record { k = 4; classes = 1; desk = 0; way = 0 }; stations = l ++ replicate 60 blank; carrying = 1; kept = replicate 64 nothing }
 
 -- "each alone leaves the net in form": after a tell to a station that still waits, a tell far apart gets 11
 abbrev waiting : Net
@@ -84,8 +85,8 @@ waiting = handed (other 0 0 2 ∷ other 0 1 2 ∷ other 3 0 2 ∷ other 0 0 3 �
 form-needed : BothAllowed waiting (step tell 0 1) (step tell 3 2)
     × (wellFormed waiting ≡ true)
     × (stepOn rules (after waiting (step tell 0 1)) (step tell 3 2) ≡ stepRefused OutOfForm (after waiting (step tell 0 1)))
-unfolding stepOn wellFormed carryingWell toldWell areWellFormed form.wellFormed allBelow allowed inRange mayTell toldBy tabulate each member membersBelow size within rootOf
-    valid bounded cellBounded clipped nothing
+unfolding stepOn wellFormed carryingWell toldWell areWellFormed form.wellFormed allBelow allowed inRange mayTell toldBy tabulate each member membersBelow size within
+    valid bounded cellBounded sumBounded clipped nothing
 form-needed = ((refl, refl), refl, refl)
 
 -- "neither takes away the other's leave": a report gives leave for a tell far apart
@@ -96,5 +97,5 @@ leave-given : (wellFormed unreported ≡ true)
     × (allowed rules unreported (step tell 3 2) ≡ false)
     × (allowed rules (after unreported (step report 0 0)) (step tell 3 2) ≡ true)
 unfolding stepOn wellFormed carryingWell toldWell areWellFormed form.wellFormed allBelow allowed inRange mayStep assigned mayTell tabulate each member membersBelow size within
-    rootOf valid bounded cellBounded nothing
+    valid bounded cellBounded sumBounded nothing
 leave-given = (refl, refl, refl)

@@ -19,10 +19,10 @@ module _ (words : List ℕ) (long : length words ≡ 705) (flag : ℕ) (byte : f
   w = getD words 0 0
 
   abbrev high : ℕ
-  high = w / 2 ^ 32 * 2 ^ 8 + flag
+  high = w / 2 ^ 40 * 2 ^ 8 + flag
 
   abbrev v : ℕ
-  v = high * 2 ^ 24 + w % 2 ^ 24
+  v = high * 2 ^ 32 + w % 2 ^ 32
 
   abbrev pub flagged : List ℕ
   flagged = set words 0 v
@@ -33,40 +33,40 @@ module _ (words : List ℕ) (long : length words ≡ 705) (flag : ℕ) (byte : f
   later : (i j : ℕ) → getD flagged (firstWord i + j) 0 ≡ getD words (firstWord i + j) 0
   later i j = getD-set-other words 0 (firstWord i + j) v 0 (λ e. omega arith)
 
-  above : v / 2 ^ 24 ≡ high
+  above : v / 2 ^ 32 ≡ high
   above = digits-div high (omega arith)
 
   pub flag-read : carryingIn flagged ≡ flag
   unfolding spareIn
-  flag-read = ap (λ (x : ℕ). x / 2 ^ 24 % 2 ^ 8) first ∙ ap (λ (x : ℕ). x % 2 ^ 8) above ∙ digits-mod (w / 2 ^ 32) byte
+  flag-read = ap (λ (x : ℕ). x / 2 ^ 32 % 2 ^ 8) first ∙ ap (λ (x : ℕ). x % 2 ^ 8) above ∙ digits-mod (w / 2 ^ 40) byte
 
   pub flag-stations : stationsIn flagged ≡ stationsIn words
   unfolding stationsIn
   flag-stations = tabulate-ext 64 _ _ (λ i l. station-alike flagged words (firstWord i) (λ j u. later i j))
 
   -- the bytes below stay
-  below : v % 2 ^ 24 ≡ w % 2 ^ 24
+  below : v % 2 ^ 32 ≡ w % 2 ^ 32
   below = digits-mod high (omega arith)
 
   pub flag-config : configIn flagged ≡ configIn words
   unfolding configIn
   flag-config =
-      let low : (x : ℕ) → Config = λ x. record { k = byteOf 0 x; classes = byteOf 1 x; desk = byteOf 2 x } in
-      let cut : (x : ℕ) → low x ≡ low (x % 2 ^ 24) = λ x. bytes-of (omega arith) (omega arith) (omega arith) in
+      let low : (x : ℕ) → Config = λ x. record { k = byteOf 0 x; classes = byteOf 1 x; desk = byteOf 2 x; way = byteOf 3 x } in
+      let cut : (x : ℕ) → low x ≡ low (x % 2 ^ 32) = λ x. bytes-of (omega arith) (omega arith) (omega arith) (omega arith) in
       ap low first ∙ cut v ∙ ap low below ∙ sym (cut w)
     where
-      bytes-of : {a b c d e f : ℕ} → a ≡ b → c ≡ d → e ≡ f
-          → _≡_ {A = Config} (record { k = a; classes = c; desk = e }) (record { k = b; classes = d; desk = f })
-      bytes-of p q r = rw (p, q, r)
+      bytes-of : {a b c d e f m n : ℕ} → a ≡ b → c ≡ d → e ≡ f → m ≡ n
+          → _≡_ {A = Config} (record { k = a; classes = c; desk = e; way = m }) (record { k = b; classes = d; desk = f; way = n })
+      bytes-of p q r s = rw (p, q, r, s)
 
   pub flag-beside : besideIn flagged ≡ besideIn words
   unfolding spareIn
   flag-beside =
       ap₂ (λ (x : ℕ) (l : List ℕ). x ∷ l)
-      (ap (λ (x : ℕ). x / 2 ^ 24 / 2 ^ 8) first
+      (ap (λ (x : ℕ). x / 2 ^ 32 / 2 ^ 8) first
       ∙ ap (λ (x : ℕ). x / 2 ^ 8) above
-      ∙ digits-div (w / 2 ^ 32) byte
-      ∙ sym (div-div-eq-div-mul w (2 ^ 24) (2 ^ 8)))
+      ∙ digits-div (w / 2 ^ 40) byte
+      ∙ sym (div-div-eq-div-mul w (2 ^ 32) (2 ^ 8)))
       (tabulate-ext 64 _ _ (λ i l. ap (λ (x : ℕ). x / 2 ^ 24) (later i 10)))
 
 -- ---- the net and what stands beside it pin the words
@@ -77,8 +77,8 @@ spare-pinned l m flag beside =
     (sym (parts l) ∙ ap₂ (λ (q r : ℕ). q * 2 ^ 8 + r) (ap (λ (x : List ℕ). getD x 0 0) beside) flag ∙ parts m)
     (ap (λ (x : List ℕ). drop 1 x) beside)
   where
-    parts : (x : List ℕ) → getD x 0 0 / 2 ^ 24 / 2 ^ 8 * 2 ^ 8 + getD x 0 0 / 2 ^ 24 % 2 ^ 8 ≡ getD x 0 0 / 2 ^ 24
-    parts x = div-add-mod' (getD x 0 0 / 2 ^ 24) (2 ^ 8)
+    parts : (x : List ℕ) → getD x 0 0 / 2 ^ 32 / 2 ^ 8 * 2 ^ 8 + getD x 0 0 / 2 ^ 32 % 2 ^ 8 ≡ getD x 0 0 / 2 ^ 32
+    parts x = div-add-mod' (getD x 0 0 / 2 ^ 32) (2 ^ 8)
 
 pub net-pinned : NetPinned
 net-pinned =

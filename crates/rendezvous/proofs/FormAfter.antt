@@ -13,7 +13,7 @@ use borrow.Author.Tests.{eqb-true, eqb-false, ne-eqb, not-true}
 use Rattle.finite.specs.Below.{allBelow}
 use Rattle.finite.proofs.Cases.{by-bool, by-eq, by-sum, and-both, or-right}
 use Rattle.finite.proofs.Below.{all-below, all-below-at, all-below-fails, all-below-one, all-below-both, all-below-ext}
-use Rattle.finite.proofs.Lists.{set-either}
+use Rattle.finite.proofs.Lists.{set-either, set-two-either}
 use Rattle.aggregate.specs.declared.Config.{Config}
 use Rattle.aggregate.specs.declared.Aggregate.{Aggregate}
 use Rattle.aggregate.specs.Aggregate.{rootOf, valid, bounded, clipped, absent}
@@ -27,9 +27,8 @@ use Rattle.schedule.specs.Rules.{allowed}
 use Rattle.schedule.proofs.Listing.{range-bounds}
 use Rattle.schedule.proofs.Answers.{allowed-parts}
 use Rattle.stations.specs.Stations.{noStation, stationAt, areWellFormed}
-use Rattle.stations.specs.Words.{configIn, stationRead}
+use Rattle.stations.specs.Words.{configIn, stationsIn}
 use Rattle.stations.specs.Kept.{keptRead}
-use Rattle.stations.proofs.Words.{station-read}
 use Rattle.stations.proofs.Kept.{kept-read}
 use Rattle.stations.proofs.Laws.{config-valid, well-formed-at, replaced-kept, replaced-bounded}
 use Rattle.aggregate.proofs.Laws.{valid-k}
@@ -144,8 +143,7 @@ module _ (c : Net) (b : carries c ≡ true) (f : wellFormed c ≡ true) where
     well-two : (x : ℕ) (s r : Station) → x < here .k → toldWell here j s ≡ true → toldWell here i r ≡ true
         → toldWell here x (getD (set (set (c .stations) j s) i r) x noStation) ≡ true
     well-two x s r l a b =
-        set-either (λ (st : Station). toldWell here x st ≡ true) (set (c .stations) j s) i x r noStation (λ e. subst (λ (y : ℕ). toldWell here y r ≡ true) (sym e) b)
-        (set-either (λ (st : Station). toldWell here x st ≡ true) (c .stations) j x s noStation (λ e. subst (λ (y : ℕ). toldWell here y s ≡ true) (sym e) a) (place x l .0))
+        set-two-either (λ (y : ℕ) (st : Station). toldWell here y st ≡ true) (c .stations) j i x s r noStation a b (place x l .0)
 
     finishes-well : toldWell here j (finishes (station c j)) ≡ true
     unfolding toldWell
@@ -331,5 +329,5 @@ module _ (net : Net) (low : net .carrying ≤ 1) where
 
 -- what code reads of a place is what the words hold
 pub place-read : (words totals : List ℕ) (i : ℕ) → i < 64 → {carrying : ℕ} {t : Config} {s : Station} → carrying ≡ carryingIn words → t ≡ configIn words
-    → s ≡ stationRead words i → placeFormed carrying t i s (keptRead totals i) ≡ placed (netIn words totals) i
-place-read words totals i l e f g = rw (e, f, g, station-read words i l, kept-read totals i l)
+    → s ≡ stationAt (stationsIn words) i → placeFormed carrying t i s (keptRead totals i) ≡ placed (netIn words totals) i
+place-read words totals i l e f g = rw (e, f, g, kept-read totals i l)

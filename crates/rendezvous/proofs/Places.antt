@@ -11,7 +11,7 @@ use lib.Seq.{getD-set-same, getD-set-other, set-set, set-comm}
 use lib.Dec.{eqb}
 use borrow.Author.Tests.{eqb-true, eq-eqb}
 use Rattle.finite.proofs.Cases.{by-bool, by-sum, and-both}
-use Rattle.finite.proofs.Lists.{set-own, set-either}
+use Rattle.finite.proofs.Lists.{set-own, set-two-either}
 use Rattle.wave.specs.internal.Claim.{Runs, reached}
 use Rattle.aggregate.specs.declared.Config.{Config}
 use Rattle.aggregate.specs.declared.Aggregate.{Aggregate}
@@ -226,12 +226,10 @@ finished-stays : (net : Net) (kind j i x : ℕ) → mayStep (net .config) kind j
 finished-stays net kind j i x may done =
     let r = assigns kind j i in
     let both = r .stays (net .config) (station net j) (station net i) may in
-    let at : (y : ℕ) → x ≡ y → station net y .state ≡ 2 = λ y e. subst (λ (z : ℕ). station net z .state ≡ 2) e done in
     let IsDone : Station → Type 0 = λ s. s .state ≡ 2 in
     ap (λ (n : Net). station n x .state) (r .effect net)
-    ∙ set-either IsDone (set (net .stations) j _) (r .second) x _ noStation
-    (λ e. both .1 (subst IsDone (of-two (station net) (r .named)) (at (r .second) e)))
-    (set-either IsDone (net .stations) j x _ noStation (λ e. both .0 (at j e)) done)
+    ∙ set-two-either (λ (y : ℕ) (s : Station). IsDone (station net y) → IsDone s) (net .stations) j (r .second) x _ _ noStation
+    (both .0) (λ q. both .1 (subst IsDone (of-two (station net) (r .named)) q)) (λ q. q) done
 
 pub reported-after : (net : Net) (s : Step) → allowed rules net s ≡ true → isReported net ≡ true → isReported (apply net s) ≡ true
 unfolding toldBy

@@ -10,7 +10,7 @@ use lib.Seq.{getD-set-same, getD-set-other}
 use lib.Dec.{eqb}
 use borrow.Author.Tests.{eqb-true, eqb-false, eq-eqb, ne-eqb, not-true}
 use Rattle.finite.proofs.Cases.{clash, by-eq, and-both}
-use Rattle.finite.proofs.Lists.{map-set, set-own, set-either}
+use Rattle.finite.proofs.Lists.{map-set, set-own, set-either, set-two-either}
 use Rattle.aggregate.specs.declared.Config.{Config}
 use Rattle.aggregate.specs.Aggregate.{rootOf, nothing, clipped, absent}
 use Rattle.station.specs.declared.Station.{Station}
@@ -182,9 +182,7 @@ module _ (c : Net) (j i : ℕ) where
   Was x s = eqb (s .state) told ≡ true → isTold c x ≡ true
 
   was-two : (x : ℕ) (s r : Station) → Was j s → Was i r → Was x (getD (set (set (c .stations) j s) i r) x noStation)
-  was-two x s r a b =
-      set-either (Was x) (set (c .stations) j s) i x r noStation (λ e. subst (λ (y : ℕ). Was y r) (sym e) b)
-      (set-either (Was x) (c .stations) j x s noStation (λ e. subst (λ (y : ℕ). Was y s) (sym e) a) (λ u. u))
+  was-two x s r a b = set-two-either Was (c .stations) j i x s r noStation a b (λ u. u)
 
   pub was-assigned : (kind x : ℕ) → Was x (station (assigned c kind j i) x)
   unfolding assigned

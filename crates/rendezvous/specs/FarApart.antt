@@ -6,6 +6,7 @@ use mathlib.Core.Logic.{_⊎_}
 use mathlib.Core.List.{List, [], _∷_, map, flatMap, List·Memᴰ}
 use Prim.Native.Nat.{ℕ}
 use lib.ListN.{replicate}
+use Rattle.aggregate.specs.Ways.{summing}
 use Rattle.refusal.specs.declared.Refusal.the-variants.{NotAllowed}
 use Rattle.schedule.specs.declared.Step.{Step}
 use Rattle.schedule.specs.Rules.{allowed}
@@ -93,7 +94,7 @@ pub record Ends (net : Net) (a b : List Step) : Type 0 where
 abbrev pub woken : Net
 woken =
     let counts = flatMap (λ (n : ℕ). n ∷ replicate 7 0) (5 ∷ 7 ∷ 11 ∷ []) in
-    after (freshNet false (record { k = 3; classes = 1; desk = 0 }) counts (6 ∷ 5 ∷ 3 ∷ [])) (step wake 0 1)
+    after (freshNet false (record { k = 3; classes = 1; desk = 0; way = summing }) counts (6 ∷ 5 ∷ 3 ∷ [])) (step wake 0 1)
 
 -- steps with a common station need not change places: there the desk and station 1 may both wake station 2, and each alone leaves the net in form,
 -- but the second is refused (13), and station 2 hangs on the first

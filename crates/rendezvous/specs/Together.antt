@@ -14,7 +14,7 @@ use Rattle.rendezvous.specs.Figure.{wake, pass, answer, report, mayStep,
 
 -- station i of the net, by itself
 abbrev pub processAt : Net → ℕ → Process
-processAt net i = record { own = i; classes = net .config .classes; desk = net .config .desk; station = station net i }
+processAt net i = record { own = i; classes = net .config .classes; desk = net .config .desk; way = net .config .way; station = station net i }
 
 -- an event that no number refuses
 abbrev pub isDone : process.EventOutcome → Bool

@@ -6,6 +6,7 @@ use crate::PASS;
 use crate::REPORT;
 use crate::TELL;
 use crate::WAKE;
+use crate::form;
 use crate::telling;
 use aggregate::Config;
 use schedule::Step;
@@ -67,10 +68,10 @@ pub(crate) fn is_allowed(net: &[u64; 705], t: Config, step: Step) -> bool
     requires config { ⌜ t ≡ configIn (now net) ⌝ }
     ensures { λ r. ⌜ ((kept : List ℕ) → r ≡ guard (netIn (now (net .entry)) kept) step) ⌝ }
 {
-    let s = stations::load(net, step.sender);
-    let r = stations::load(net, step.receiver);
+    let s = form::read(net, step.sender);
+    let r = form::read(net, step.receiver);
     if step.kind == TELL {
-        let desk = stations::load(net, aggregate::root(t));
+        let desk = form::read(net, aggregate::root(t));
         return telling::may_tell(t, step, desk, s, r);
     }
     may_step(t, step, s, r)
@@ -107,14 +108,6 @@ pub(crate) fn receive(t: Config, step: Step, s: Station, r: Station) -> Station
     }
 }
 
-// The place of a station, which a compiler sees to be one: so it tests nothing where the station is read and stored.
-fn place(i: u8) -> u8
-    requires { ⌜ i < 64 ⌝ }
-    ensures { λ r. ⌜ r ≡ i ⌝ }
-{
-    i % 64
-}
-
 // A step that is allowed, made. Who needs its two stations afterwards reads of them what he needs.
 pub(crate) fn make(net: &mut [u64; 705], totals: &mut [u64; 576], t: Config, step: Step)
     requires places { ⌜ (step .sender < 64) × (step .receiver < 64) ⌝ }
@@ -123,10 +116,10 @@ pub(crate) fn make(net: &mut [u64; 705], totals: &mut [u64; 576], t: Config, ste
     ensures made { λ _. ⌜ netIn (now (net .exit)) (now (totals .exit)) ≡ madeOf (netIn (now (net .entry)) (now (totals .entry))) step ⌝ }
     ensures spare { λ _. ⌜ spareIn (now (net .exit)) ≡ spareIn (now (net .entry)) ⌝ }
 {
-    let from = place(step.sender);
-    let to = place(step.receiver);
-    let sender = stations::load(net, from);
-    let receiver = stations::load(net, to);
+    let from = form::place(step.sender);
+    let to = form::place(step.receiver);
+    let sender = form::read(net, step.sender);
+    let receiver = form::read(net, step.receiver);
     let s = send(step, sender);
     let r = receive(t, step, sender, receiver);
     stations::store(net, from, s);

@@ -1,11 +1,11 @@
 // Stations that meet (document 01, "Stations that meet"): a start or an answer is sent and taken in one step.
+use linemap::FreshAnswer;
 use linemap::Map;
 use refusal::Refusal;
 use schedule::Answer;
 use schedule::Ran;
 use schedule::Step;
 use schedule::rows::Drawn;
-use topology::Verdict;
 ghost use mathlib.Core.Path.{_≡_};
 ghost use Rattle.linemap.specs.Openings.{openingOf};
 ghost use Rattle.schedule.specs.Outcome.{stepOutcomeOf, runOutcomeOf};
@@ -38,22 +38,28 @@ const CARRYING: u8 = 1;
 // The state of a station that was told the total.
 pub const TOLD: u8 = 3;
 
-// The fresh net of an accepted map, opened for carrying back or not; any other map opens none.
-pub fn fresh(m: Map, carrying: bool, net: &mut [u64; 705], totals: &mut [u64; 576]) -> Verdict
-    ensures opening { λ r. ⌜ openingOf r (netIn (now (net .exit)) (now (totals .exit))) ≡ rendezvousOpening carrying m (netIn (now (net .entry)) (now (totals .entry))) ⌝ }
+// The fresh net of an accepted map, opened for carrying back or not, to join counts the way; any other map and any other way opens none.
+pub fn fresh(
+    m: Map,
+    way: u8,
+    carrying: bool,
+    net: &mut [u64; 705],
+    totals: &mut [u64; 576],
+) -> FreshAnswer
+    ensures opening { λ r. ⌜ openingOf r (netIn (now (net .exit)) (now (totals .exit))) ≡ rendezvousOpening carrying way m (netIn (now (net .entry)) (now (totals .entry))) ⌝ }
     ensures beside { λ r. ⌜ besideIn (now (net .exit)) ≡ besideIn (now (net .entry)) ⌝ }
 {
-    let verdict = linemap::accept(m);
-    if let Verdict::Refused(fault) = verdict {
-        return Verdict::Refused(fault);
+    let answer = linemap::open(m, way);
+    if let FreshAnswer::Refused(fault) = answer {
+        return FreshAnswer::Refused(fault);
     }
-    let t = linemap::config(m);
+    let t = linemap::config(m, way);
     let counts = m.counts;
     let neighbours = m.neighbours;
     stations::put_fresh(net, t, counts, neighbours);
     form::put_carrying(net, carrying);
     stations::clear_kept(totals);
-    Verdict::Accepted
+    FreshAnswer::Opened
 }
 
 // One step: refused by 11, 12 or 13, or made.

@@ -108,7 +108,7 @@ pub(crate) fn renew(
     requires { ⌜ j < 64 ⌝ }
     ensures { λ r. ⌜ Renewed t j (stationAt (stationsIn (now (net .entry))) j) (now (kept .entry)) states (now (kept .exit)) r ⌝ }
 {
-    let s = stations::load(net, j);
+    let s = form::read(net, j);
     let sends = find_sends(t, j, s);
     keep(kept, j, sends);
     restate(states, j, s.state)
@@ -151,7 +151,7 @@ pub(crate) fn survey(net: &[u64; 705], totals: &[u64; 576], kept: &mut [u64; 192
     let mut active: u64 = 0;
     let mut j: u8 = 0;
     while j < k {
-        let s = stations::load(net, j);
+        let s = form::read(net, j);
         let placed = if carrying == CARRYING {
             form::is_carrying_place(t, j, s, totals)
         } else {

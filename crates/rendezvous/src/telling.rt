@@ -1,6 +1,7 @@
 // Totals carried back to the heads (document 02, request 8): kind 5, and what is kept by it.
 use crate::TELL;
 use crate::TOLD;
+use crate::form;
 use aggregate::Config;
 use schedule::Step;
 use station::FINISHED;
@@ -81,7 +82,7 @@ fn find_teller(net: &[u64; 705], t: Config, i: u8) -> u8
     ensures { λ r. ⌜ ((kept : List ℕ) → Teller (netIn (now (net .entry)) kept) i r) ⌝ }
 {
     let root = aggregate::root(t);
-    let s = stations::load(net, i);
+    let s = form::read(net, i);
     let parent = s.parent;
     if (i == root) | !(s.state == FINISHED) | (NONE <= parent) {
         return NONE;
@@ -89,7 +90,7 @@ fn find_teller(net: &[u64; 705], t: Config, i: u8) -> u8
     if parent == root {
         return parent;
     }
-    let p = stations::load(net, parent);
+    let p = form::read(net, parent);
     if p.state == TOLD { parent } else { NONE }
 }
 
@@ -101,7 +102,7 @@ pub(crate) fn fill_tells(tells: &mut [u64; 260], net: &[u64; 705], t: Config)
     ensures { λ _. ⌜ ((kept : List ℕ) → AreTells (netIn (now (net .entry)) kept) (t .k) (now (tells .exit))) ⌝ }
 {
     let k = t.k;
-    let desk = stations::load(net, aggregate::root(t));
+    let desk = form::read(net, aggregate::root(t));
     if desk.state == FINISHED {
         let mut i: u8 = 0;
         while i < k {

@@ -15,11 +15,12 @@ use Rattle.finite.proofs.Cases.{clash}
 use Rattle.finite.proofs.Sums.{sum-ext}
 use Rattle.aggregate.specs.declared.Cell.{Cell}
 use Rattle.aggregate.specs.declared.Aggregate.{Aggregate}
-use Rattle.aggregate.specs.Aggregate.{rootOf, cell}
-use Rattle.aggregate.proofs.Laws.{root-desk}
+use Rattle.aggregate.specs.Ways.{summing}
+use Rattle.aggregate.specs.Aggregate.{cell}
+use Rattle.aggregate.specs.Reported.{Reported}
 use Rattle.topology.specs.Answer.{isAccepted}
 use Rattle.linemap.specs.declared.Map.{Map}
-use Rattle.linemap.specs.Maps.{configOf, acceptance, place, countAt, totals}
+use Rattle.linemap.specs.Maps.{configOf, acceptance, place, countAt}
 use Rattle.linemap.specs.RoundTrip.{Fits}
 use Rattle.linemap.specs.Writing.{isStorable}
 use Rattle.rendezvous.specs.Net.{Net, station, wellFormed}
@@ -40,7 +41,7 @@ pub record Passed (m : Map) (net : Net) (buffer : List ℕ) : Type 0 where
   pub ok : isAccepted (acceptance m) ≡ true
   pub storable : isStorable (m .lot) ≡ true
   pub formed : wellFormed net ≡ true
-  pub same : agrees (configOf m) (net .config) ≡ true
+  pub same : agrees (configOf summing m) (net .config) ≡ true
   pub reported : isReported (m .classes) (deskOf net) ≡ true
   pub enough : leb (sheetLength m) (length buffer) ≡ true
 
@@ -57,7 +58,7 @@ module _ (m : Map) (net : Net) (buffer : List ℕ) (laid : LaidOut m net buffer)
       let a = passed (isAccepted (acceptance m)) _ _ (λ f. f) (ap isAccepted laid) in
       let b = passed (isStorable (m .lot)) _ _ (λ f. refl) (a .1) in
       let c = passed (wellFormed net) _ _ (λ f. refl) (b .1) in
-      let d = passed (agrees (configOf m) (net .config)) _ _ (λ f. refl) (c .1) in
+      let d = passed (agrees (configOf summing m) (net .config)) _ _ (λ f. refl) (c .1) in
       let e = passed (isReported (m .classes) (deskOf net)) _ _ (λ f. refl) (d .1) in
       let f = passed (leb (sheetLength m) (length buffer)) _ _ (λ f. refl) (e .1) in
       record { ok = a .0; storable = b .0; formed = c .0; same = d .0; reported = e .0; enough = f .0 }
@@ -92,9 +93,9 @@ long-as-said : (m : Map) → Fits m → (net : Net) (buffer : List ℕ) → Laid
 long-as-said m fits net buffer laid =
     length-sheet m (deskOf net .held) (map-narrow m net buffer laid) (cells-narrow m net buffer laid) (fit-stations m fits)
 
--- where the desk holds the map's totals of a class, the lines above add up to them
+-- where the desk reports the counts of a class added, the lines above add up to them
 module _ (m : Map) (held : Aggregate) (narrow : NarrowMap m) (cells : NarrowCells (m .classes) held) (fits : Fits m) (rest : List ℕ)
-    (j : ℕ) (low : j < m .classes) (total : cell held j ≡ totals m j) where
+    (j : ℕ) (low : j < m .classes) (total : Reported summing (m .k) (λ i. countAt m i j) (cell held j)) where
   abbrev bytes : List ℕ
   bytes = sheetOf m held ++ rest
 
@@ -116,27 +117,26 @@ module _ (m : Map) (held : Aggregate) (narrow : NarrowMap m) (cells : NarrowCell
       record {
         counts =
             sum-ext addition (m .k) _ _ (λ i l. ap shown (count-is i l) ∙ shown-count (countAt m i j) (fits .counts (place i j)))
-            ∙ ap (λ (y : Cell). y .sum) (sym total)
+            ∙ sym (total .sums refl)
             ∙ sym (ap (λ (l : List ℕ). shown (columnsAt 5 12 l)) last-is
             ∙ ap shown (total-columns j x few h)
             ∙ shown-column 12 (x .sum) (omega (arith, h .total)));
         missing =
             sum-ext addition (m .k) _ _ (λ i l. ap (λ (y : List ℕ). indicator (isHyphens y)) (count-is i l) ∙ hyphens-count (countAt m i j))
-            ∙ ap (λ (y : Cell). y .missing) (sym total)
+            ∙ sym (total .missing)
             ∙ sym (ap (λ (l : List ℕ). shown (columnsAt 18 2 l)) last-is
             ∙ ap shown (missing-columns j x few h)
             ∙ shown-column 2 (x .missing) (omega (arith, h .missing)));
       }
 
 -- the desk of a net that agrees with the map is the map's
-desk-held : (m : Map) (net : Net) → agrees (configOf m) (net .config) ≡ true → station net (rootOf (configOf m)) .held ≡ deskOf net .held
+desk-held : (m : Map) (net : Net) → agrees (configOf summing m) (net .config) ≡ true → station net (m .desk) .held ≡ deskOf net .held
 desk-held m net same =
-    let desks = agreed (configOf m) (net .config) same .2 in
-    ap (λ (i : ℕ). station net i .held) (root-desk (configOf m) ∙ desks ∙ sym (root-desk (net .config)))
+    ap (λ (i : ℕ). station net i .held) (agreed (configOf summing m) (net .config) same .2)
 
--- so the sheet of a net whose desk reports the map's totals adds up
+-- so the sheet of a net whose desk reports the map's counts added adds up
 sound : (m : Map) → Fits m → (count : ℕ) (net : Net)
-    → (count ≡ 1 → (j : ℕ) → j < m .classes → cell (station net (rootOf (configOf m)) .held) j ≡ totals m j)
+    → (count ≡ 1 → (j : ℕ) → j < m .classes → Reported summing (m .k) (λ i. countAt m i j) (cell (station net (m .desk) .held) j))
     → Sound m count net
 sound m fits count net number reported buffer laid j low =
     let held = deskOf net .held in
@@ -144,7 +144,7 @@ sound m fits count net number reported buffer laid j low =
     let rest = drop (length (sheetOf m held)) buffer in
     subst (λ (b : List ℕ). AddsUp m b j) (sym (buffer-is m net buffer laid))
     (sums-up m held (map-narrow m net buffer laid) (cells-narrow m net buffer laid) fits rest j low
-    (ap (λ (v : Aggregate). cell v j) (sym desk) ∙ number reported j low))
+    (subst (λ (v : Aggregate). Reported summing (m .k) (λ i. countAt m i j) (cell v j)) desk (number reported j low)))
 
 pub sheets : Sheets
 sheets =
@@ -152,7 +152,7 @@ sheets =
       columns = columns-of;
       long = long-as-said;
       adds-up = λ m fits good calls.
-          sound m fits (reports meeting m calls) (left meeting m calls) (demand .stations-that-meet m fits good calls .number-reported);
+          sound m fits (reports (meeting summing) m calls) (left (meeting summing) m calls) (demand .stations-that-meet summing refl m fits good calls .in-words);
       adds-up-carrying = λ m fits good calls.
-          sound m fits (reports carrying m calls) (left carrying m calls) (demand .carrying-back m fits good calls .number-reported);
+          sound m fits (reports (carrying summing) m calls) (left (carrying summing) m calls) (demand .carrying-back summing refl m fits good calls .in-words);
     }

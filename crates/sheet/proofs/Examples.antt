@@ -7,7 +7,8 @@ use lib.ListN.{replicate}
 use Rattle.finite.specs.Below.{allBelow, each, tabulate}
 use Rattle.bitset.specs.Set.{member, membersBelow, size, without, within}
 use Rattle.aggregate.specs.declared.Aggregate.{Aggregate}
-use Rattle.aggregate.specs.Aggregate.{rootOf, valid, nothing, cellBounded, bounded, cellGathered, gathered, cellJoined, joined}
+use Rattle.aggregate.specs.Ways.{sumJoined, emptySum}
+use Rattle.aggregate.specs.Aggregate.{valid, nothing, sumBounded, cellBounded, bounded, cellGathered, gathered, cellJoined, joined}
 use Rattle.station.specs.Form as form
 use Rattle.station.specs.Events as events
 use Rattle.topology.specs.Acceptance.{verdictOf, firstFrom, anyBelow, near}
@@ -62,6 +63,6 @@ seven =
     ∷ calls.single (step report 0 0)
     ∷ []
 
-triangle-laid : (reports meeting (triangle 11) seven ≡ 1) × LaidOut (triangle 11) (left meeting (triangle 11) seven) (replicate 205 0)
-unfolding sheetOn agrees isReported areNarrow verdictOf firstFrom anyBelow near wellFormed areWellFormed form.wellFormed allBelow calls.callMade calls.callNet calls.callsMade calls.callsNet select stepOn inRange mayStep assigned events.maySendStart events.startedBy events.ready events.mayReport events.mayAnswer freshNet freshStations freshStation readingAt tabulate each member membersBelow size without within rootOf valid bounded cellBounded gathered cellGathered joined cellJoined nothing
+triangle-laid : (reports (meeting 0) (triangle 11) seven ≡ 1) × LaidOut (triangle 11) (left (meeting 0) (triangle 11) seven) (replicate 205 0)
+unfolding sheetOn agrees isReported areNarrow verdictOf firstFrom anyBelow near wellFormed areWellFormed form.wellFormed allBelow calls.callMade calls.callNet calls.callsMade calls.callsNet select stepOn inRange mayStep assigned events.maySendStart events.startedBy events.ready events.mayReport events.mayAnswer freshNet freshStations freshStation readingAt tabulate each member membersBelow size without within valid bounded cellBounded sumBounded gathered cellGathered emptySum joined cellJoined sumJoined nothing
 triangle-laid = (refl, refl)

@@ -5,15 +5,16 @@ use mathlib.Core.List.{List}
 use Prim.Native.Nat.{ℕ, _^_, _≤_, _<_}
 use native.Mathlib.Omega.{arith}
 use lib.ListN.{length}
-use lib.Dec.{leb, eqb, ltb}
-use borrow.Author.Tests.{lt-leb, le-leb, ltb-true, leb-true, eqb-true}
+use lib.Dec.{eqb, ltb}
+use borrow.Author.Tests.{lt-leb, le-leb, ltb-true, eqb-true}
 use Rattle.finite.proofs.Cases.{and-both}
 use Rattle.finite.proofs.Below.{all-below-at}
 use Rattle.finite.specs.internal.Putting.{Room}
 use Rattle.finite.proofs.Stores.{put-front}
-use Rattle.aggregate.specs.Aggregate.{used, rootOf, cell, cellBounded, bounded}
+use Rattle.aggregate.specs.Ways.{summing}
+use Rattle.aggregate.specs.Aggregate.{rootOf, cell, bounded}
 use Rattle.aggregate.specs.declared.Config.{Config}
-use Rattle.aggregate.proofs.Laws.{class-count, root-below}
+use Rattle.aggregate.proofs.Laws.{class-count, root-below, cell-parts, bounded-at}
 use Rattle.station.specs.Events.{finished}
 use Rattle.topology.specs.declared.Fault.{Fault}
 use Rattle.topology.specs.Answer.{isAccepted}
@@ -36,7 +37,8 @@ use Rattle.sheet.proofs.Lines.{length-sheet}
 pub agreed : (s t : Config) → agrees s t ≡ true → (s .k ≡ t .k) × (s .classes ≡ t .classes) × (s .desk ≡ t .desk)
 unfolding agrees
 agreed s t h =
-    let last = and-both (eqb (s .k) (t .k) && eqb (s .classes) (t .classes)) (eqb (s .desk) (t .desk)) h in
+    let ways = and-both (eqb (s .k) (t .k) && eqb (s .classes) (t .classes) && eqb (s .desk) (t .desk)) (eqb (s .way) (t .way)) h in
+    let last = and-both (eqb (s .k) (t .k) && eqb (s .classes) (t .classes)) (eqb (s .desk) (t .desk)) (ways .0) in
     let first = and-both (eqb (s .k) (t .k)) (eqb (s .classes) (t .classes)) (last .0) in
     (eqb-true _ _ (first .0), eqb-true _ _ (first .1), eqb-true _ _ (last .1))
 
@@ -53,18 +55,16 @@ module _ (m : Map) (ok : isAccepted (acceptance m) ≡ true) where
   narrow-map storable =
       record { lot = ltb-true (m .lot) (2 ^ 48) storable; stations = map-web m ok .few-stations; classes = few-classes }
 
-  module _ (net : Net) (formed : wellFormed net ≡ true) (same : agrees (configOf m) (net .config) ≡ true)
+  module _ (net : Net) (formed : wellFormed net ≡ true) (same : agrees (configOf summing m) (net .config) ≡ true)
       (reported : isReported (m .classes) (deskOf net) ≡ true) where
     desk-bounded : bounded (net .config) (deskOf net .held) ≡ true
     desk-bounded = held-bounded net formed (rootOf (net .config)) (root-below (net .config) (form-valid net formed))
 
     class-missing : (j : ℕ) → j < m .classes → cell (deskOf net .held) j .missing ≤ 64
-    unfolding bounded cellBounded
     class-missing j low =
-        let x = cell (deskOf net .held) j in
-        let classes = agreed (configOf m) (net .config) same .1 in
-        let all = all-below-at (λ i. cellBounded (cell (deskOf net .held) i)) (used (net .config)) j desk-bounded (omega (arith, low, classes, few-classes)) in
-        leb-true (x .missing) 64 (and-both (ltb (x .sum) (2 ^ 62)) (leb (x .missing) 64) all .1)
+        let classes = agreed (configOf summing m) (net .config) same .1 in
+        cell-parts (net .config .way) (cell (deskOf net .held) j)
+        (bounded-at (net .config) (deskOf net .held) desk-bounded j (omega (arith, low, classes, few-classes))) .1
 
     class-total : (j : ℕ) → j < m .classes → cell (deskOf net .held) j .sum < 10 ^ 12
     unfolding isReported areNarrow
@@ -93,11 +93,11 @@ module _ (m : Map) (net : Net) (l : List ℕ) where
       out-of-form fails = rw (ok, storable, fails)
 
       module _ (formed : wellFormed net ≡ true) where
-        pub differs : agrees (configOf m) (net .config) ≡ false → sheetOutcomeOf (Refused Differs) l ≡ sheetOn m net l
+        pub differs : agrees (configOf summing m) (net .config) ≡ false → sheetOutcomeOf (Refused Differs) l ≡ sheetOn m net l
         unfolding sheetOn
         differs fails = rw (ok, storable, formed, fails)
 
-        module _ (same : agrees (configOf m) (net .config) ≡ true) where
+        module _ (same : agrees (configOf summing m) (net .config) ≡ true) where
           pub unreported : isReported (m .classes) (deskOf net) ≡ false → sheetOutcomeOf (Refused Unreported) l ≡ sheetOn m net l
           unfolding sheetOn
           unreported fails = rw (ok, storable, formed, same, fails)

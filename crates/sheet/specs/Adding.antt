@@ -10,6 +10,7 @@ use lib.ListN.{length, getD, take, drop}
 use Rattle.finite.specs.Sum.{sum, indicator}
 use Rattle.finite.specs.Below.{allBelow}
 use Rattle.aggregate.specs.declared.Aggregate.{Aggregate}
+use Rattle.aggregate.specs.Ways.{summing}
 use Rattle.aggregate.specs.Aggregate.{cell}
 use Rattle.linemap.specs.declared.Map.{Map}
 use Rattle.linemap.specs.Maps.{countAt}
@@ -81,6 +82,7 @@ pub record Sheets : Type 0 where
   pub columns : (m : Map) → Fits m → (net : Net) (buffer : List ℕ) → LaidOut m net buffer → Columns m (deskOf net .held)
   -- the length answered is the sheet's
   pub long : (m : Map) → Fits m → (net : Net) (buffer : List ℕ) → LaidOut m net buffer → length (sheetOf m (deskOf net .held)) ≡ sheetLength m
-  -- "For a net reached by allowed steps from the fresh net of that map", opened without carrying back or for it
-  pub adds-up : OnEveryMap (λ m calls. Sound m (reports meeting m calls) (left meeting m calls))
-  pub adds-up-carrying : OnEveryMap (λ m calls. Sound m (reports carrying m calls) (left carrying m calls))
+  -- "For a net reached by allowed steps from the fresh net of that map", opened without carrying back or for it; for a net that joins counts
+  -- another way there is no sheet
+  pub adds-up : OnEveryMap (λ m calls. Sound m (reports (meeting summing) m calls) (left (meeting summing) m calls))
+  pub adds-up-carrying : OnEveryMap (λ m calls. Sound m (reports (carrying summing) m calls) (left (carrying summing) m calls))

@@ -11,6 +11,7 @@ use Rattle.finite.specs.Tests.{unless}
 use Rattle.refusal.specs.Refusal.{numberOf}
 use Rattle.refusal.specs.declared.Refusal.the-variants as refusal
 use Rattle.aggregate.specs.declared.Config.{Config}
+use Rattle.aggregate.specs.Ways.{summing}
 use Rattle.aggregate.specs.Aggregate.{rootOf, cell}
 use Rattle.station.specs.declared.Station.{Station}
 use Rattle.station.specs.Events.{finished}
@@ -55,9 +56,9 @@ sheetOutcomeOf answer buffer = record { numbers = sheetNumbers answer; buffer = 
 abbrev pub deskOf : Net → Station
 deskOf net = station net (rootOf (net .config))
 
--- "20 when the net's k, class count or desk differ from the map's": they don't
+-- "20 when the net's k, class count or desk differ from the map's", and "20 for a way other than sum" (request 10): they don't
 unfoldable pub agrees : Config → Config → Bool
-agrees s t = eqb (s .k) (t .k) && eqb (s .classes) (t .classes) && eqb (s .desk) (t .desk)
+agrees s t = eqb (s .k) (t .k) && eqb (s .classes) (t .classes) && eqb (s .desk) (t .desk) && eqb (s .way) (t .way)
 
 -- "a total has more than 12 digits": none of the c totals has
 unfoldable pub areNarrow : ℕ → Station → Bool
@@ -79,7 +80,7 @@ sheetOn m net buffer =
     unless (isAccepted (acceptance m)) (record { numbers = acceptance m; buffer = buffer })
     (unless (isStorable (m .lot)) (refused Lot)
     (unless (wellFormed net) (refused OutOfForm)
-    (unless (agrees (configOf m) (net .config)) (refused Differs)
+    (unless (agrees (configOf summing m) (net .config)) (refused Differs)
     (unless (isReported (m .classes) (deskOf net)) (refused Unreported)
     (unless (leb (sheetLength m) (length buffer)) (refused (Buffer (sheetLength m)))
     (sheetOutcomeOf (Laid (sheetLength m)) (over (sheetOf m (deskOf net .held)) buffer)))))))

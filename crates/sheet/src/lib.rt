@@ -176,7 +176,7 @@ fn put_lines(buf: &mut [u8], m: Map, held: Aggregate) -> usize
 fn agrees(s: Config, t: Config) -> bool
     ensures { λ r. ⌜ r ≡ agrees s t ⌝ }
 {
-    (s.k == t.k) & (s.classes == t.classes) & (s.desk == t.desk)
+    (s.k == t.k) & (s.classes == t.classes) & (s.desk == t.desk) & (s.way == t.way)
 }
 
 // Whether each of so many totals fits its columns.
@@ -226,7 +226,7 @@ pub fn put_sheet(m: Map, net: &[u64; 705], totals: &[u64; 576], out: &mut [u8]) 
         return SheetAnswer::Refused(SheetFault::OutOfForm);
     }
     let t = stations::config_in(net);
-    if !agrees(linemap::config(m), t) {
+    if !agrees(linemap::config(m, aggregate::SUMMING), t) {
         return SheetAnswer::Refused(SheetFault::Differs);
     }
     let desk = stations::load(net, aggregate::root(t));

@@ -18,10 +18,10 @@ wellFormed t i s =
 
 -- "For one station 64 stands for k"
 abbrev pub processConfig : Process → Config
-processConfig p = record { k = 64; classes = p .classes; desk = p .desk }
+processConfig p = record { k = 64; classes = p .classes; desk = p .desk; way = p .way }
 
 -- "and its own number is below 64"; "a net or station with such a c is out of form" (document 02, request 2), and so is a desk "not below k"
--- (request 5)
+-- (request 5) and a way "above 3" (request 10)
 unfoldable pub wellFormedProcess : Process → Bool
 wellFormedProcess p =
     valid (processConfig p) && ltb (p .own) (processConfig p .k) && wellFormed (processConfig p) (p .own) (p .station)

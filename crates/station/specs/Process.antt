@@ -41,7 +41,7 @@ eventRefused r p = record { number = numberOf r; values = []; given = nothing; p
 
 -- the process after an event at its station
 abbrev pub after : Process → Station → Process
-after p s = record { own = p .own; classes = p .classes; desk = p .desk; station = s }
+after p s = record { own = p .own; classes = p .classes; desk = p .desk; way = p .way; station = s }
 
 -- an accepted event that gives nothing
 abbrev pub done : Process → EventOutcome

@@ -36,6 +36,7 @@ pub struct Process {
     pub own: u8,
     pub classes: u8,
     pub desk: u8,
+    pub way: u8,
     pub station: Station,
 }
 
@@ -215,6 +216,7 @@ impl Process {
             k: 64,
             classes: self.classes,
             desk: self.desk,
+            way: self.way,
         }
     }
 
@@ -227,7 +229,20 @@ impl Process {
         aggregate::is_valid(t) & (own < t.k) & s.is_well_formed(t, own)
     }
 
-    // The process at another station, and nothing given.
+    // The process after an event at its station.
+    fn after(self, station: Station) -> Process
+        ensures { λ r. ⌜ r ≡ Rules.after self station ⌝ }
+    {
+        Process {
+            own: self.own,
+            classes: self.classes,
+            desk: self.desk,
+            way: self.way,
+            station: station,
+        }
+    }
+
+    // Nothing is given.
     fn done(self, station: Station) -> Event
         ensures { λ r. ⌜ Rules.eventOutcomeOf (r .reply) (r .process) ≡ Rules.done (Rules.after self station) ⌝ }
     {
@@ -236,12 +251,7 @@ impl Process {
                 answer: Answer::Done,
                 given: aggregate::empty(),
             },
-            process: Process {
-                own: self.own,
-                classes: self.classes,
-                desk: self.desk,
-                station: station,
-            },
+            process: self.after(station),
         }
     }
 
@@ -256,12 +266,7 @@ impl Process {
                 answer: Answer::Gives(s.parent),
                 given: aggregate::clip(self.config(), held),
             },
-            process: Process {
-                own: self.own,
-                classes: self.classes,
-                desk: self.desk,
-                station: s.ended(),
-            },
+            process: self.after(s.ended()),
         }
     }
 

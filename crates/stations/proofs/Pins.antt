@@ -58,9 +58,10 @@ module _ (l m : List ℕ) (config : configIn l ≡ configIn m) (stations : stati
       let v = getD l 0 0 in
       let w = getD m 0 0 in
       let high = ap (λ (x : List ℕ). getD x 0 0) spare in
+      let way = ap (λ (t : Config). t .way) config in
       let desk = ap (λ (t : Config). t .desk) config in
       let classes = ap (λ (t : Config). t .classes) config in
-      pins-all v w (pins-up v w 0 (pins-up v w 1 (pins-up v w 2 high desk) classes) (ap (λ (t : Config). t .k) config))
+      pins-all v w (pins-up v w 0 (pins-up v w 1 (pins-up v w 2 (pins-up v w 3 high way) desk) classes) (ap (λ (t : Config). t .k) config))
 
   module _ (i : ℕ) (low : i < 64) where
     station-same : stationFrom l (firstWord i) ≡ stationFrom m (firstWord i)

@@ -63,7 +63,7 @@ module _ (l m : List ℕ) where
       rw (sums-alike at (λ j u. h j (omega arith)), h 8 (omega arith), h 9 (omega arith), h 10 (omega arith))
 
 -- ---- what the net was opened with, written
-module _ (words : List ℕ) (long : length words ≡ 705) (t : Config) (byte : (t .k < 2 ^ 8) × (t .classes < 2 ^ 8) × (t .desk < 2 ^ 8)) where
+module _ (words : List ℕ) (long : length words ≡ 705) (t : Config) (byte : (t .k < 2 ^ 8) × (t .classes < 2 ^ 8) × (t .desk < 2 ^ 8) × (t .way < 2 ^ 8)) where
   first-word : getD (withConfig words t) 0 0 ≡ configWord (getD words 0 0) t
   unfolding withConfig
   first-word = getD-set-same words 0 _ 0 (omega arith)
@@ -74,25 +74,30 @@ module _ (words : List ℕ) (long : length words ≡ 705) (t : Config) (byte : (
 
   -- the parts of the first word, from the highest
   abbrev rest : ℕ
-  rest = getD words 0 0 / 2 ^ 24
+  rest = getD words 0 0 / 2 ^ 32
 
   abbrev two : ℕ
-  two = rest * 2 ^ 8 + t .desk
+  two = rest * 2 ^ 8 + t .way
 
   abbrev three : ℕ
-  three = two * 2 ^ 8 + t .classes
+  three = two * 2 ^ 8 + t .desk
+
+  abbrev four : ℕ
+  four = three * 2 ^ 8 + t .classes
 
   pub config-put : configIn (withConfig words t) ≡ t
   unfolding configIn
   config-put =
       config-of
-      (ap (byteOf 0) first-word ∙ byte-low three (t .k) (byte .0))
-      (ap (byteOf 1) first-word ∙ byte-up three (t .k) (byte .0) 0 ∙ byte-low two (t .classes) (byte .1))
-      (ap (byteOf 2) first-word ∙ byte-up three (t .k) (byte .0) 1 ∙ byte-up two (t .classes) (byte .1) 0 ∙ byte-low rest (t .desk) (byte .2))
+      (ap (byteOf 0) first-word ∙ byte-low four (t .k) (byte .0))
+      (ap (byteOf 1) first-word ∙ byte-up four (t .k) (byte .0) 0 ∙ byte-low three (t .classes) (byte .1))
+      (ap (byteOf 2) first-word ∙ byte-up four (t .k) (byte .0) 1 ∙ byte-up three (t .classes) (byte .1) 0 ∙ byte-low two (t .desk) (byte .2))
+      (ap (byteOf 3) first-word ∙ byte-up four (t .k) (byte .0) 2 ∙ byte-up three (t .classes) (byte .1) 1 ∙ byte-up two (t .desk) (byte .2) 0
+      ∙ byte-low rest (t .way) (byte .3))
     where
-      config-of : {k l c d r s : ℕ} → k ≡ l → c ≡ d → r ≡ s
-          → _≡_ {A = Config} (record { k = k; classes = c; desk = r }) (record { k = l; classes = d; desk = s })
-      config-of e f g = rw (e, f, g)
+      config-of : {k l c d r s v w : ℕ} → k ≡ l → c ≡ d → r ≡ s → v ≡ w
+          → _≡_ {A = Config} (record { k = k; classes = c; desk = r; way = v }) (record { k = l; classes = d; desk = s; way = w })
+      config-of e f g h = rw (e, f, g, h)
 
   pub config-put-stations : stationsIn (withConfig words t) ≡ stationsIn words
   unfolding stationsIn
@@ -102,8 +107,8 @@ module _ (words : List ℕ) (long : length words ≡ 705) (t : Config) (byte : (
   unfolding spareIn
   config-put-spare =
       ap₂ (λ (x : ℕ) (l : List ℕ). x ∷ l)
-      (ap (λ (x : ℕ). x / 2 ^ 24) first-word
-      ∙ bytes-up three (t .k) (byte .0) 2 ∙ bytes-up two (t .classes) (byte .1) 1 ∙ bytes-up rest (t .desk) (byte .2) 0 ∙ div-one rest)
+      (ap (λ (x : ℕ). x / 2 ^ 32) first-word
+      ∙ bytes-up four (t .k) (byte .0) 3 ∙ bytes-up three (t .classes) (byte .1) 2 ∙ bytes-up two (t .desk) (byte .2) 1 ∙ bytes-up rest (t .way) (byte .3) 0 ∙ div-one rest)
       (tabulate-ext 64 _ _ (λ i l. ap (λ (x : ℕ). x / 2 ^ 24) (later-word i 10)))
 
 -- ---- a station written
@@ -271,7 +276,7 @@ module _ (words : List ℕ) (long : length words ≡ 705) (i : ℕ) (low : i < 6
   unfolding spareIn
   stored-spare =
       ap₂ (λ (x : ℕ) (l : List ℕ). x ∷ l)
-      (ap (λ (x : ℕ). x / 2 ^ 24) (station-other words (firstWord i) s 0 (λ j u e. omega arith)))
+      (ap (λ (x : ℕ). x / 2 ^ 32) (station-other words (firstWord i) s 0 (λ j u e. omega arith)))
       (tabulate-ext 64 _ _ (λ x l.
       by-eq x i
       (λ (e : x ≡ i). rw e (spare-again words (firstWord i) s (omega arith) fits))

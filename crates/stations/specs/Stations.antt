@@ -4,13 +4,13 @@ use mathlib.Core.List.{List}
 use Prim.Native.Nat.{ℕ, _+_, _*_}
 use lib.ListN.{getD}
 use lib.Dec.{eqb, ltb}
-use Rattle.finite.specs.Sum.{sum}
+use Rattle.finite.specs.Sum.{foldTo}
 use Rattle.finite.specs.Below.{allBelow, tabulate}
 use Rattle.bitset.specs.Set.{size}
 use Rattle.aggregate.specs.declared.Config.{Config}
 use Rattle.aggregate.specs.declared.Reading.{Reading}
 use Rattle.aggregate.specs.declared.Cell.{Cell}
-use Rattle.aggregate.specs.Aggregate.{rootOf, valid, used, cell, gathered, nothing, absent}
+use Rattle.aggregate.specs.Aggregate.{rootOf, valid, used, cell, cellJoined, emptyCell, gathered, nothing, absent}
 use Rattle.station.specs.declared.Station.{Station}
 use Rattle.station.specs.Events.{asleep, active, finished}
 use Rattle.station.specs.Form.{wellFormed}
@@ -27,7 +27,7 @@ noStation = record { held = absent; unstarted = 0; parent = 0; waits = 0; state 
 abbrev pub stationAt : List Station → ℕ → Station
 stationAt stations i = getD stations i noStation
 
--- "Form (11): k 1 to 64", the class count and the desk with it (`valid`), and every station below k is in form (Causes and numbers)
+-- "Form (11): k 1 to 64", the class count, the desk and the way with it (`valid`), and every station below k is in form (Causes and numbers)
 unfoldable pub areWellFormed : Config → List Station → Bool
 areWellFormed t stations = valid t && allBelow (t .k) (λ i. wellFormed t i (stationAt stations i))
 
@@ -47,8 +47,8 @@ freshStation t reading neighbours i =
 unfoldable pub freshStations : Config → List ℕ → List ℕ → List Station
 freshStations t counts neighbours = tabulate 64 (λ i. freshStation t (readingAt t counts i) (getD neighbours i 0) i)
 
--- "the sums of stations not finished" (Stations that meet), added, and their missing numbers: of k stations, in one class
-abbrev pub unfinished : ℕ → (ℕ → Station) → ℕ → Cell
-unfinished k station j =
-    let added : (Cell → ℕ) → ℕ = λ f. sum k (λ i. cond (eqb (station i .state) finished) 0 (f (cell (station i .held) j))) in
-    record { sum = added (λ x. x .sum); missing = added (λ x. x .missing) }
+-- "the sums of stations not finished" (Stations that meet), "joined its way" (document 02, request 10), and their missing numbers: of k
+-- stations, in one class
+abbrev pub unfinished : ℕ → ℕ → (ℕ → Station) → ℕ → Cell
+unfinished way k station j =
+    foldTo (cellJoined way) (emptyCell way) k (λ i. cond (eqb (station i .state) finished) (emptyCell way) (cell (station i .held) j))

@@ -1,5 +1,5 @@
--- The stations of a net of either kind in the words that a caller lends, in the layout that C has: k, the class count and the desk in the
--- three lowest bytes of the first word; then eleven words for each of the 64 places, eight sums, a word of eight missing numbers, the set, and
+-- The stations of a net of either kind in the words that a caller lends, in the layout that C has: k, the class count, the desk and the way in the
+-- four lowest bytes of the first word; then eleven words for each of the 64 places, eight sums, a word of eight missing numbers, the set, and
 -- a word with parent, waits and state in its lowest bytes. Every list of words is such; what else stands in these words says nothing, and
 -- stays.
 use mathlib.Core.Path.{_≡_}
@@ -21,7 +21,7 @@ byteOf j w = w / 2 ^ (8 * j) % 2 ^ 8
 
 -- what the net was opened with
 unfoldable pub configIn : List ℕ → Config
-configIn words = let w = getD words 0 0 in record { k = byteOf 0 w; classes = byteOf 1 w; desk = byteOf 2 w }
+configIn words = let w = getD words 0 0 in record { k = byteOf 0 w; classes = byteOf 1 w; desk = byteOf 2 w; way = byteOf 3 w }
 
 -- where the words of station i start
 abbrev pub firstWord : ℕ → ℕ
@@ -47,7 +47,7 @@ stationsIn words = tabulate 64 (λ i. stationFrom words (firstWord i))
 
 -- what stands beside the fields, in the first word and in the last of each station
 unfoldable pub spareIn : List ℕ → List ℕ
-spareIn words = getD words 0 0 / 2 ^ 24 ∷ tabulate 64 (λ i. getD words (firstWord i + 10) 0 / 2 ^ 24)
+spareIn words = getD words 0 0 / 2 ^ 32 ∷ tabulate 64 (λ i. getD words (firstWord i + 10) 0 / 2 ^ 24)
 
 -- station i; past the places, a blank one
 abbrev pub stationRead : List ℕ → ℕ → Station
@@ -55,7 +55,7 @@ stationRead words i = cond (ltb i 64) (stationFrom words (firstWord i)) blank
 
 -- a first word with other fields
 abbrev pub configWord : ℕ → Config → ℕ
-configWord w t = ((w / 2 ^ 24 * 2 ^ 8 + t .desk) * 2 ^ 8 + t .classes) * 2 ^ 8 + t .k
+configWord w t = (((w / 2 ^ 32 * 2 ^ 8 + t .way) * 2 ^ 8 + t .desk) * 2 ^ 8 + t .classes) * 2 ^ 8 + t .k
 
 -- the words of a net opened with t
 unfoldable pub withConfig : List ℕ → Config → List ℕ

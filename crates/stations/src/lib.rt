@@ -100,18 +100,20 @@ pub fn config_in(words: &[u64; 705]) -> Config
         k: (w % 256) as u8,
         classes: (w / 256 % 256) as u8,
         desk: (w / 65536 % 256) as u8,
+        way: (w / 16777216 % 256) as u8,
     }
 }
 
 // A first word with other fields.
 fn config_word(w: u64, t: Config) -> u64
     ensures word { λ r. ⌜ r ≡ Words.configWord w t ⌝ }
-    ensures fields { λ r. ⌜ (t .k < 256) × (t .classes < 256) × (t .desk < 256) ⌝ }
+    ensures fields { λ r. ⌜ (t .k < 256) × (t .classes < 256) × (t .desk < 256) × (t .way < 256) ⌝ }
 {
     let k = wide(t.k);
     let classes = wide(t.classes);
     let desk = wide(t.desk);
-    ((w / 16777216 * 256 + desk) * 256 + classes) * 256 + k
+    let way = wide(t.way);
+    (((w / 4294967296 * 256 + way) * 256 + desk) * 256 + classes) * 256 + k
 }
 
 // The words of a net opened with t.

@@ -9,6 +9,7 @@ use lib.Dec.{eqb}
 use borrow.Author.Tests.{eqb-true}
 use Rattle.aggregate.specs.declared.Config.{Config}
 use Rattle.aggregate.specs.declared.Cell.{Cell}
+use Rattle.aggregate.specs.Ways.{isWay}
 use Rattle.aggregate.specs.Aggregate.{rootOf}
 use Rattle.aggregate.specs.internal.Joining.{cells, joining}
 use Rattle.station.specs.declared.Station.{Station}
@@ -38,36 +39,37 @@ use Rattle.demand.specs.Kinds.{meeting, carrying, made}
 use Rattle.tree.specs.Tree.{meetingAnswers, carryingAnswers}
 use Rattle.tree.proofs.Kind.{graph, Above}
 
-module _ (m : Map) (fits : Fits m) (e : acceptance m ≡ accepted) where
+module _ (way : ℕ) (ok : isWay way ≡ true) (m : Map) (fits : Fits m) (e : acceptance m ≡ accepted) where
   abbrev t : Config
-  t = configOf m
+  t = configOf way m
 
   abbrev g : Graph
-  g = graph m e
+  g = graph way m e
 
   -- what steps with tells among them lead to
-  walked : (made : List Step) → Runs (Allowed rules) apply (freshOn true m) made
-      → Runs (Allowed rules) apply (freshOn false m) (waveSteps tell made)
-      × (plain (reached apply (freshOn true m) made) ≡ reached apply (freshOn false m) (waveSteps tell made))
+  walked : (made : List Step) → Runs (Allowed rules) apply (freshOn true way m) made
+      → Runs (Allowed rules) apply (freshOn false way m) (waveSteps tell made)
+      × (plain (reached apply (freshOn true way m) made) ≡ reached apply (freshOn false way m) (waveSteps tell made))
   walked made runs =
-      let T = ties t (m .counts) (m .neighbours) (web-of m e) (classes-of m e) (fits .counts) in
-      let K = carries-back t (m .counts) (m .neighbours) (web-of m e) (classes-of m e) (fits .counts) in
+      let T = ties t (m .counts) (m .neighbours) (web-of m e) (classes-of m e, ok) (fits .counts) in
+      let K = carries-back t (m .counts) (m .neighbours) (web-of m e) (classes-of m e, ok) (fits .counts) in
       let held : Net → ℕ → Cell = λ n. cells t (station n (rootOf t) .held) in
       let parent : Net → ℕ → ℕ = λ n i. station n i .parent in
       let w =
-      walk rules rules tell g joining (readings m) (freshOn false m) held T parent (freshOn true m) _ K (freshOn true m) (fresh g (readings m)) made
-      (started rules rules tell g joining (readings m) (freshOn false m) held T parent (freshOn true m) _ K) runs in (
+      walk rules rules tell g (joining way) (readings way m) (freshOn false way m) held T parent (freshOn true way m) _ K (freshOn true way m) (fresh g (readings way m)) made
+      (started rules rules tell g (joining way) (readings way m) (freshOn false way m) held T parent (freshOn true way m) _ K) runs in (
         subst (λ (n : Net). Runs (Allowed rules) apply n (waveSteps tell made)) (K .start-plain) (w .runs),
         w .ends ∙ ap (λ (n : Net). reached apply n (waveSteps tell made)) (K .start-plain),
       )
 
-  pub carrying-above : Above meeting meetingAnswers carrying carryingAnswers m
+  pub carrying-above : Above (meeting way) (meetingAnswers way) (carrying way) (carryingAnswers way) m
   carrying-above =
       record {
         plain = plain;
         walked = walked;
-        first = λ calls. (tellsOf tell (made carrying m calls), rendezvous-carried m fits e .back calls .tells-last);
+        first = λ calls. (tellsOf tell (made (carrying way) m calls), rendezvous-carried way ok m fits e .back calls .tells-last);
         same-reports = refl;
+        same-way = refl;
         awake-is = λ net i. ap (λ (s : Station). eqb (s .state) asleep) (at-plain net i) ∙ settled-early (station net i .state) asleep (omega arith);
         parent-is = λ net i. sym (ap (λ (s : Station). s .parent) (at-plain net i));
         held-is = λ net i. sym (ap (λ (s : Station). s .held) (at-plain net i));

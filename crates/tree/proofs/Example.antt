@@ -4,7 +4,8 @@ use mathlib.Core.List.{flatMap}
 use Rattle.finite.specs.Below.{allBelow, tabulate, each}
 use Rattle.finite.specs.Numbers.{number, bytes}
 use Rattle.bitset.specs.Set.{member, membersBelow, size, without, within, union, minus, put, bitIf}
-use Rattle.aggregate.specs.Aggregate.{rootOf, valid, nothing, cellBounded, bounded, cellGathered, gathered, cellJoined, joined, clipped, missingWord, fromWords}
+use Rattle.aggregate.specs.Ways.{sumJoined, emptySum}
+use Rattle.aggregate.specs.Aggregate.{valid, nothing, sumBounded, cellBounded, bounded, cellGathered, gathered, cellJoined, joined, clipped, missingWord, fromWords}
 use Rattle.station.specs.Form as form
 use Rattle.schedule.specs.Rules.{inRange, allowed}
 use Rattle.schedule.specs.Listing.{numbersFrom, range, select, candidates, listed}
@@ -20,9 +21,9 @@ use Rattle.mailbox.specs.Rules.{mayStep, netAfter}
 use Rattle.demand.specs.Kinds.{meeting, mailing}
 use Rattle.tree.specs.Tree.{AnyTree}
 
-pub any-tree : AnyTree meeting × AnyTree mailing
-unfolding flatMap allBelow tabulate each number bytes member membersBelow size without within union minus put bitIf rootOf valid nothing
-    cellBounded bounded cellGathered gathered cellJoined joined clipped missingWord fromWords form.wellFormed inRange allowed numbersFrom range
+pub any-tree : AnyTree (meeting 0) × AnyTree (mailing 0)
+unfolding flatMap allBelow tabulate each number bytes member membersBelow size without within union minus put bitIf valid nothing
+    cellBounded sumBounded bounded cellGathered emptySum gathered cellJoined sumJoined joined clipped missingWord fromWords form.wellFormed inRange allowed numbersFrom range
     select candidates listed picked drawOn runNet stopped runOn callNet callsNet areWellFormed readingAt freshStation freshStations
     meeting-net.wellFormed meeting-net.freshNet figure.mayStep figure.assigned boxAt broughtAt startsPosted withBox withMessage withAnswer
     withSums withWaiting mailing-net.areBounded mailing-net.wellFormed mailing-net.freshNet boxesAfter boxesSettled delivered reported mayStep netAfter

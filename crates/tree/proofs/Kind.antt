@@ -10,14 +10,14 @@ use native.Mathlib.Omega.{arith}
 use lib.Dec.{eqb}
 use lib.ListN.{length, getD, length-append, List·getD-append}
 use borrow.Author.Tests.{eqb-false, ne-eqb}
-use Rattle.finite.specs.internal.Monoid.{addition}
+use Rattle.finite.specs.internal.Monoid.{CommMonoid}
 use Rattle.finite.proofs.Cases.{clash, by-bool}
 use Rattle.finite.proofs.Sums.{sum-ext}
 use Rattle.aggregate.specs.declared.Config.{Config}
 use Rattle.aggregate.specs.declared.Cell.{Cell}
 use Rattle.aggregate.specs.declared.Aggregate.{Aggregate}
 use Rattle.aggregate.specs.Aggregate.{cell}
-use Rattle.aggregate.specs.internal.Joining.{pair, cells, joining}
+use Rattle.aggregate.specs.internal.Joining.{joiningCells, cells, joining}
 use Rattle.station.specs.Events.{asleep}
 use Rattle.wave.specs.internal.Graph.{Graph}
 use Rattle.wave.specs.internal.Wave.{State, message, report}
@@ -29,7 +29,7 @@ use Rattle.wave.proofs.Lasting.{runs-then}
 use Rattle.wave.proofs.TreeTheorem.{Shows, refinement-tree, refinement-up, refinement-parents}
 use Rattle.topology.specs.Answer.{accepted}
 use Rattle.linemap.specs.declared.Map.{Map}
-use Rattle.linemap.specs.Maps.{configOf, acceptance}
+use Rattle.linemap.specs.Maps.{configOf, acceptance, totalsOf}
 use Rattle.schedule.specs.declared.Step.{Step}
 use Rattle.schedule.specs.Rules.{Rules}
 use Rattle.schedule.specs.Listing.{select, howMany, step}
@@ -142,25 +142,32 @@ unfolding select
 select-first p s l e = rw e
 
 -- the stations of an accepted map
-abbrev pub graph : (m : Map) → acceptance m ≡ accepted → Graph
-graph m e = line (configOf m) (m .neighbours) (web-of m e)
+abbrev pub graph : ℕ → (m : Map) → acceptance m ≡ accepted → Graph
+graph way m e = line (configOf way m) (m .neighbours) (web-of m e)
+
+-- how a kind of net joins, and what it joins on a map
+abbrev joins : Kind → CommMonoid (ℕ → Cell)
+joins K = joining (K .way)
+
+abbrev read : Kind → Map → ℕ → ℕ → Cell
+read K m = readings (K .way) m
 
 -- ---- the kind of net below
 module _ (K : Kind) (A : Answers K) (m : Map) (e : acceptance m ≡ accepted) where
   abbrev g : Graph
-  g = graph m e
+  g = graph (K .way) m e
 
   abbrev total : K .Net → ℕ → Cell
-  total net = cells (configOf m) (deskHeld K m net)
+  total net = cells (configOf (K .way) m) (deskHeld K m net)
 
   -- what it brings on a map: it is tied to the wave and shows its records, and no answer is a report
   pub record Shown : Type 1 where
-    pub ties : Ties (K .rules) g joining (readings m) (K .fresh m) total
-    pub shows : Shows g joining (readings m) (nets (K .rules) g joining (readings m) (K .fresh m) total ties) (records K A (configOf m))
+    pub ties : Ties (K .rules) g (joins K) (read K m) (K .fresh m) total
+    pub shows : Shows g (joins K) (read K m) (nets (K .rules) g (joins K) (read K m) (K .fresh m) total ties) (records K A (configOf (K .way) m))
     pub no-report : (net : K .Net) (s : Step) → A .isAnswer net s ≡ true → isReport K s ≡ false
 
-  abbrev pub refined : Shown → Refinement g joining (readings m)
-  refined B = nets (K .rules) g joining (readings m) (K .fresh m) total (B .ties)
+  abbrev pub refined : Shown → Refinement g (joins K) (read K m)
+  refined B = nets (K .rules) g (joins K) (read K m) (K .fresh m) total (B .ties)
 
 -- ---- and the one above: what its steps lead to below, of the first kind
 pub record Above (K₀ : Kind) (A₀ : Answers K₀) (K : Kind) (A : Answers K) (m : Map) : Type 0 where
@@ -171,6 +178,7 @@ pub record Above (K₀ : Kind) (A₀ : Answers K₀) (K : Kind) (A : Answers K) 
       × (plain (reached (K .rules .apply) (K .fresh m) made) ≡ reached (K₀ .rules .apply) (K₀ .fresh m) (select (K .counts) made))
   pub first : (calls : List Call) → (after : List Step) × (made K m calls ≡ steps K m calls ++ after)
   pub same-reports : K .rules .reports ≡ K₀ .rules .reports
+  pub same-way : K .way ≡ K₀ .way
   -- what is below has the records of what is above
   pub awake-is : (net : K .Net) (i : ℕ) → eqb (K₀ .station (plain net) i .state) asleep ≡ eqb (K .station net i .state) asleep
   pub parent-is : (net : K .Net) (i : ℕ) → K .station net i .parent ≡ K₀ .station (plain net) i .parent
@@ -191,6 +199,7 @@ itself K A m whole =
           subst at (sym (select-all (K .counts) whole made)) (runs, refl);
       first = λ calls. ([], sym (append-nil (steps K m calls) ∙ select-all (K .counts) whole (made K m calls)));
       same-reports = refl;
+      same-way = refl;
       awake-is = λ net i. refl;
       parent-is = λ net i. refl;
       held-is = λ net i. refl;
@@ -200,21 +209,22 @@ itself K A m whole =
     }
 
 -- a total of the wave's, class by class
-pub in-classes : (K : Kind) (m : Map) (e : acceptance m ≡ accepted) (calls : List Call) (a : Aggregate) (i : ℕ)
-    → cells (configOf m) a ≡ totalThrough joining (m .k) (parentOf K m calls) (readings m) i
+pub in-classes : (K : Kind) (way : ℕ) → K .way ≡ way → (m : Map) (e : acceptance m ≡ accepted) (calls : List Call) (a : Aggregate) (i : ℕ)
+    → cells (configOf way m) a ≡ totalThrough (joining way) (m .k) (parentOf K m calls) (readings way m) i
     → (c : ℕ) → c < m .classes → cell a c ≡ treeTotals K m calls i c
-in-classes K m e calls a i q c l =
-    sym (class-held m e a c l) ∙ ap (λ (f : ℕ → Cell). f c) q ∙ chosen-joined m e (leadsThrough K m calls i) c l
+in-classes K way same m e calls a i q c l =
+    let through = leadsThrough K m calls i in
+    sym (class-held way m e a c l) ∙ ap (λ (f : ℕ → Cell). f c) q ∙ chosen-joined way m e through c l ∙ ap (λ (w : ℕ). totalsOf w through m c) (sym same)
 
 module _ (K₀ : Kind) (A₀ : Answers K₀) (K : Kind) (A : Answers K) (m : Map) (e : acceptance m ≡ accepted) (B : Shown K₀ A₀ m e)
     (P : Above K₀ A₀ K A m) (calls : List Call) where
   abbrev t : Config
-  t = configOf m
+  t = configOf (K₀ .way) m
 
   abbrev D : Records (K₀ .Net) Step (ℕ → Cell)
   D = records K₀ A₀ t
 
-  abbrev R : Refinement (g K₀ A₀ m e) joining (readings m)
+  abbrev R : Refinement (g K₀ A₀ m e) (joins K₀) (read K₀ m)
   R = refined K₀ A₀ m e B
 
   abbrev counted : List Step → List Step
@@ -251,7 +261,7 @@ module _ (K₀ : Kind) (A₀ : Answers K₀) (K : Kind) (A : Answers K) (m : Map
       let there = front-plain front back q in
       let awake : D .awake (P .plain net) i ≡ true = ap not (P .awake-is net i ∙ ne-eqb (K .station net i .state) asleep up) in
       ap (λ (f : ℕ → ℕ). f i) parents
-      ∙ refinement-parents (g K₀ A₀ m e) joining (readings m) R D (B .shows) (steps K m calls) runs (counted front) (counted back)
+      ∙ refinement-parents (g K₀ A₀ m e) (joins K₀) (read K₀ m) R D (B .shows) (steps K m calls) runs (counted front) (counted back)
       (ap counted q ∙ select-append (K .counts) front back) i l (subst (λ (n : K₀ .Net). D .awake n i ≡ true) there awake)
       ∙ sym (P .parent-is net i ∙ ap (λ (n : K₀ .Net). K₀ .station n i .parent) there)
 
@@ -263,14 +273,14 @@ module _ (K₀ : Kind) (A₀ : Answers K₀) (K : Kind) (A : Answers K) (m : Map
         ∙ one
 
     -- a total of the wave's, by the parents of the net above
-    by-parents : (i : ℕ) → totalThrough joining (m .k) (D .parent end) (readings m) i ≡ totalThrough joining (m .k) (parentOf K m calls) (readings m) i
-    by-parents i = ap (λ (p : ℕ → ℕ). totalThrough joining (m .k) p (readings m) i) (sym parents)
+    by-parents : (i : ℕ) → totalThrough (joins K₀) (m .k) (D .parent end) (read K₀ m) i ≡ totalThrough (joins K₀) (m .k) (parentOf K m calls) (read K₀ m) i
+    by-parents i = ap (λ (p : ℕ → ℕ). totalThrough (joins K₀) (m .k) p (read K₀ m) i) (sym parents)
 
     pub behind : Behind K m calls A
     behind =
-        let wave-tree = refinement-tree (g K₀ A₀ m e) joining (readings m) R D (B .shows) (steps K m calls) runs reported in
-        let up = refinement-up (g K₀ A₀ m e) joining (readings m) R D (B .shows) (steps K m calls) runs reported in
-        let of : (ℕ → ℕ) → Type 0 = λ p. TreeBehind (m .k) (desk m) (g K₀ A₀ m e .adj) joining (readings m) p (D .held end) in
+        let wave-tree = refinement-tree (g K₀ A₀ m e) (joins K₀) (read K₀ m) R D (B .shows) (steps K m calls) runs reported in
+        let up = refinement-up (g K₀ A₀ m e) (joins K₀) (read K₀ m) R D (B .shows) (steps K m calls) runs reported in
+        let of : (ℕ → ℕ) → Type 0 = λ p. TreeBehind (m .k) (desk m) (g K₀ A₀ m e .adj) (joins K₀) (read K₀ m) p (D .held end) in
         let tree : of (parentOf K m calls) = subst of (sym parents) wave-tree in
         record {
           neighbour = tree .neighbour;
@@ -287,7 +297,7 @@ module _ (K₀ : Kind) (A₀ : Answers K₀) (K : Kind) (A : Answers K) (m : Map
               ∙ ap (λ (l : List Step). counted front ++ l) (select-first (K .counts) s back (P .answers-counted net s answers)) in
               let w = up .total-up (counted front) (counted back) s (s .sender) (s .receiver) split label is in (
                 ap (λ (f : ℕ → ℕ). f (s .sender)) parents ∙ w .0,
-                in-classes K m e calls (A .brought net s) (s .sender)
+                in-classes K (K₀ .way) (P .same-way) m e calls (A .brought net s) (s .sender)
                     (ap (cells t) (P .brought-is net s) ∙ ap (λ (n : K₀ .Net). D .brought n s) there ∙ w .1 ∙ by-parents (s .sender)),
               );
           each-sent = λ i l n.
@@ -305,10 +315,10 @@ module _ (K₀ : Kind) (A₀ : Answers K₀) (K : Kind) (A : Answers K) (m : Map
                 label-is (K₀ .rules) (w .1) i _ (w .4) .1,
               );
           held = λ i c l.
-              in-classes K m e calls (K .station (left K m calls) i .held) i
+              in-classes K (K₀ .way) (P .same-way) m e calls (K .station (left K m calls) i .held) i
               (ap (cells t) (P .held-is (left K m calls) i) ∙ ap (λ (net : K₀ .Net). D .held net i) last-plain ∙ wave-tree .sums i l ∙ by-parents i) c;
           whole = λ c.
               let all : (j : ℕ) → j < m .k → leadsThrough K m calls (desk m) j ≡ true =
               λ j l. let w = tree .reaches j l in tree .through j (desk m) l .1 (w .0, w .2) in
-              pair (sum-ext addition (m .k) _ _ (λ j l. rw (all j l))) (sum-ext addition (m .k) _ _ (λ j l. rw (all j l)));
+              sum-ext (joiningCells (K .way)) (m .k) _ _ (λ j l. rw (all j l));
         }

@@ -5,6 +5,7 @@ use Rattle.linemap.specs.declared.Map.{Map}
 use Rattle.linemap.specs.Maps.{acceptance}
 use Rattle.linemap.specs.RoundTrip.{Fits}
 use Rattle.demand.specs.Kinds.{Kind, meeting, carrying, mailing}
+use Rattle.demand.proofs.Demand.{Whole}
 use Rattle.tree.specs.Tree.{Answers, meetingAnswers, carryingAnswers, mailingAnswers, OfKind, Tree}
 use Rattle.tree.proofs.Kind.{Shown, Above, itself, made-again, after-all, behind, parents-stay}
 use Rattle.tree.proofs.Rendezvous.{meeting-shown}
@@ -22,14 +23,17 @@ of-kind K₀ A₀ K A shown above =
       parents-stay = λ m fits e calls. parents-stay K₀ A₀ K A m e (shown m fits e) (above m fits e) calls;
     }
 
+-- where all steps are counted
+of-whole : (K : Kind) (A : Answers K) → Whole K → ((m : Map) → Fits m → (e : acceptance m ≡ accepted) → Shown K A m e) → OfKind K A
+of-whole K A whole shown = of-kind K A K A shown (λ m fits e. itself K A m whole)
+
 pub tree : Tree
 tree =
     record {
-      stations-that-meet =
-          of-kind meeting meetingAnswers meeting meetingAnswers meeting-shown (λ m fits e. itself meeting meetingAnswers m (λ s. refl));
-      carrying-back = of-kind meeting meetingAnswers carrying carryingAnswers meeting-shown carrying-above;
-      stations-with-mail =
-          of-kind mailing mailingAnswers mailing mailingAnswers mailing-shown (λ m fits e. itself mailing mailingAnswers m (λ s. refl));
+      stations-that-meet = λ way w. of-whole (meeting way) (meetingAnswers way) (λ s. refl) (meeting-shown way w);
+      carrying-back = λ way w.
+          of-kind (meeting way) (meetingAnswers way) (carrying way) (carryingAnswers way) (meeting-shown way w) (carrying-above way w);
+      stations-with-mail = λ way w. of-whole (mailing way) (mailingAnswers way) (λ s. refl) (mailing-shown way w);
       posted = posted;
       any-tree = any-tree;
     }

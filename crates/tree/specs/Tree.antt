@@ -11,6 +11,7 @@ use Rattle.finite.specs.Below.{tabulate}
 use Rattle.finite.specs.Hops.{hop, leads}
 use Rattle.aggregate.specs.declared.Cell.{Cell}
 use Rattle.aggregate.specs.declared.Aggregate.{Aggregate}
+use Rattle.aggregate.specs.Ways.{summing}
 use Rattle.aggregate.specs.Aggregate.{cell}
 use Rattle.station.specs.Events.{asleep}
 use Rattle.topology.specs.Acceptance.{linked}
@@ -26,7 +27,7 @@ use Rattle.mail.specs.declared.Mailbox.the-variants.{Empty, Full}
 use Rattle.mail.specs.Mail.{boxAt, broughtAt}
 use Rattle.mailbox.specs.Rules.{delivery}
 use Rattle.demand.specs.Kinds.{Kind, meeting, carrying, mailing, desk, made, left, reports}
-use Rattle.demand.specs.Demand.{OnEveryMap}
+use Rattle.demand.specs.Demand.{OnEveryMap, OnEveryWay}
 
 -- what is sent up in a kind of net: whether a step made in a net carries an answer, and what that brings
 pub record Answers (K : Kind) : Type 0 where
@@ -34,13 +35,13 @@ pub record Answers (K : Kind) : Type 0 where
   pub brought : K .Net → Step → Aggregate
 
 -- stations that meet: "3 answer", with what its sender holds
-abbrev pub meetingAnswers : Answers meeting
-meetingAnswers =
+abbrev pub meetingAnswers : (way : ℕ) → Answers (meeting way)
+meetingAnswers way =
     record { isAnswer = λ net s. eqb (s .kind) answer; brought = λ net s. meeting-net.station net (s .sender) .held }
 
 -- the same where totals are carried back (document 02, request 8)
-abbrev pub carryingAnswers : Answers carrying
-carryingAnswers = record { isAnswer = meetingAnswers .isAnswer; brought = meetingAnswers .brought }
+abbrev pub carryingAnswers : (way : ℕ) → Answers (carrying way)
+carryingAnswers way = record { isAnswer = meetingAnswers way .isAnswer; brought = meetingAnswers way .brought }
 
 -- "holding a start or an answer" (Stations with mail)
 abbrev pub holdsAnswer : Mailbox → Bool
@@ -49,8 +50,8 @@ holdsAnswer (Full Start) = false
 holdsAnswer (Full Answer) = true
 
 -- stations with mail: a delivery from a mailbox that holds an answer, with what was posted there
-abbrev pub mailingAnswers : Answers mailing
-mailingAnswers =
+abbrev pub mailingAnswers : (way : ℕ) → Answers (mailing way)
+mailingAnswers way =
     record {
       isAnswer = λ net s. eqb (s .kind) delivery && holdsAnswer (boxAt (net .boxes) (s .sender) (s .receiver));
       brought = λ net s. broughtAt (net .config) (net .boxes) (s .sender) (s .receiver);
@@ -69,9 +70,9 @@ module _ (K : Kind) (m : Map) (calls : List Call) where
   abbrev pub leadsThrough : ℕ → ℕ → Bool
   leadsThrough i j = leads parentOf (m .k - 1) j i
 
-  -- "the total of its own count and those of all stations whose parents lead through it", in class c
+  -- "the total of its own count and those of all stations whose parents lead through it", in class c, "joined its way" (document 02, request 10)
   abbrev pub treeTotals : ℕ → ℕ → Cell
-  treeTotals i c = totalsOf (leadsThrough i) m c
+  treeTotals i c = totalsOf (K .way) (leadsThrough i) m c
 
   -- what holds after the report
   pub record Behind (A : Answers K) : Type 0 where
@@ -94,7 +95,7 @@ module _ (K : Kind) (m : Map) (calls : List Call) where
     -- each station still holds it in the net that the list leaves
     pub held : (i c : ℕ) → i < m .k → c < m .classes → cell (K .station (left K m calls) i .held) c ≡ treeTotals i c
     -- for the desk it is the total reported
-    pub whole : (c : ℕ) → treeTotals (desk m) c ≡ totals m c
+    pub whole : (c : ℕ) → treeTotals (desk m) c ≡ totals (K .way) m c
 
 -- what is claimed of a kind of net
 pub record OfKind (K : Kind) (A : Answers K) : Type 0 where
@@ -110,12 +111,12 @@ pub record OfKind (K : Kind) (A : Answers K) : Type 0 where
 -- with mail, what is posted waits: each answer that waits in a net on the way brings the same, and is for the parent
 abbrev pub Posted : Type 0
 Posted =
-    OnEveryMap (λ m calls.
-    reports mailing m calls ≡ 1 → (front back : List Step) → made mailing m calls ≡ front ++ back → (i j : ℕ) → i < m .k → j < m .k
-    → let net = after mailing m front in
+    OnEveryWay (λ way. let K = mailing way in OnEveryMap (λ m calls.
+    reports K m calls ≡ 1 → (front back : List Step) → made K m calls ≡ front ++ back → (i j : ℕ) → i < m .k → j < m .k
+    → let net = after K m front in
     boxAt (net .boxes) i j ≡ Full Answer
-    → (parentOf mailing m calls i ≡ j)
-    × ((c : ℕ) → c < m .classes → cell (broughtAt (net .config) (net .boxes) i j) c ≡ treeTotals mailing m calls i c))
+    → (parentOf K m calls i ≡ j)
+    × ((c : ℕ) → c < m .classes → cell (broughtAt (net .config) (net .boxes) i j) c ≡ treeTotals K m calls i c)))
 
 -- "counts 5, 7, 11; sets 6, 5, 3; lot 42" (The program)
 abbrev pub triangle : Map
@@ -135,8 +136,8 @@ pub record AnyTree (K : Kind) : Type 0 where
 
 -- all of it
 pub record Tree : Type 0 where
-  pub stations-that-meet : OfKind meeting meetingAnswers
-  pub carrying-back : OfKind carrying carryingAnswers
-  pub stations-with-mail : OfKind mailing mailingAnswers
+  pub stations-that-meet : OnEveryWay (λ way. OfKind (meeting way) (meetingAnswers way))
+  pub carrying-back : OnEveryWay (λ way. OfKind (carrying way) (carryingAnswers way))
+  pub stations-with-mail : OnEveryWay (λ way. OfKind (mailing way) (mailingAnswers way))
   pub posted : Posted
-  pub any-tree : AnyTree meeting × AnyTree mailing
+  pub any-tree : AnyTree (meeting summing) × AnyTree (mailing summing)

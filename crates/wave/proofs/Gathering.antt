@@ -1,5 +1,5 @@
--- The wave's second invariant, beside `Inv`: whose counts are in what a station holds. It holds of the fresh state, and every step that the
--- weak guard lets through keeps it. Assumes nothing.
+-- Whose counts are in what a station holds, the last part of the wave's invariant: so the fresh state has it, and every step that the weak guard
+-- lets through keeps it. Assumes nothing.
 use mathlib.Core.Path.{_≡_, refl, sym, ap, ap₂, _∙_, subst}
 use mathlib.Core.Bool.{Bool, true, false, not, _&&_, _||_, cond, and-true, and-false, or-false}
 use Prim.Native.Nat.{ℕ, zero, suc, _<_}
@@ -14,14 +14,7 @@ use Rattle.wave.specs.internal.Graph.{Graph}
 use Rattle.wave.specs.internal.Wave.{Step, message, report, State, answers, fresh, next, CanSend, Weak}
 use Rattle.wave.specs.internal.Tree.{chosen}
 use Rattle.wave.proofs.Carried.{carried-new}
-use Rattle.wave.proofs.Invariant.{Inv, spent, answers-both, answers-is, not-self, parent-old, spent-kept, receiver-up, receiver-open}
-
--- what holds of every state that the wave reaches
-pub record Gathers {A : Type 0} (g : Graph) (M : CommMonoid A) (counts : ℕ → A) (S : State A) : Type 0 where
-  -- x's count is in what i holds: x is i, or x has answered and its count is, with its parent's, in what i holds
-  pub under : ℕ → ℕ → Bool
-  pub passed-on : (x i : ℕ) → under x i ≡ (eqb x i || spent g S x && under (S .parent x) i)
-  pub gathered : (i : ℕ) → i < g .size → S .value i ≡ chosen M (g .size) counts (λ x. under x i)
+use Rattle.wave.proofs.Invariant.{Inv, spent, answers-both, answers-is, not-self, parent-old, spent-kept, receiver-up, receiver-open, fresh-kept, message-kept, keep-report}
 
 -- a test that passes one station chooses its count
 chosen-one : {A : Type 0} (M : CommMonoid A) (k i : ℕ) (counts : ℕ → A) → i < k → chosen M k counts (λ x. eqb x i) ≡ counts i
@@ -48,15 +41,16 @@ pass-more false true u a v = refl
 pass-more false false u a v = and-false a
 
 module _ {A : Type 0} (g : Graph) (M : CommMonoid A) (counts : ℕ → A) where
-  pub fresh-gathers : Gathers g M counts (fresh g counts)
-  fresh-gathers =
-      record {
+  pub fresh-inv : Inv g M counts (fresh g counts)
+  fresh-inv =
+      fresh-kept g M counts
+      (record {
         under = λ x i. eqb x i;
         passed-on = λ x i. rw (and-false, or-false);
         gathered = λ i l. sym (chosen-one M (g .size) i counts l);
-      }
+      })
 
-  module _ (S : State A) (I : Inv g M counts S) (T : Gathers g M counts S) where
+  module _ (S : State A) (I : Inv g M counts S) where
     -- who has answered is no root and awake
     spent-parts : (x : ℕ) → spent g S x ≡ true → (x ≡ g .root → ⊥) × (S .awake x ≡ true)
     spent-parts x e =
@@ -64,15 +58,15 @@ module _ {A : Type 0} (g : Graph) (M : CommMonoid A) (counts : ℕ → A) where
         (eqb-false x (g .root) (not-true (eqb x (g .root)) (b .0)), I .sent x (S .parent x) (b .1) .1)
 
     -- the count of a station that has not answered is in what no other holds; that of one that has, where its parent's is
-    under-self : (x i : ℕ) → spent g S x ≡ false → T .under x i ≡ eqb x i
-    under-self x i s = T .passed-on x i ∙ (rw (s, or-false))
+    under-self : (x i : ℕ) → spent g S x ≡ false → I .gathers .under x i ≡ eqb x i
+    under-self x i s = I .gathers .passed-on x i ∙ (rw (s, or-false))
 
-    under-next : (x i : ℕ) → spent g S x ≡ true → (x ≡ i → ⊥) → T .under x i ≡ T .under (S .parent x) i
-    under-next x i s n = T .passed-on x i ∙ (rw (s, ne-eqb x i n))
+    under-next : (x i : ℕ) → spent g S x ≡ true → (x ≡ i → ⊥) → I .gathers .under x i ≡ I .gathers .under (S .parent x) i
+    under-next x i s n = I .gathers .passed-on x i ∙ (rw (s, ne-eqb x i n))
 
     -- so it is in what only one station holds that has not answered
     one-holder : (n x a b : ℕ) → I .rank x < n → spent g S a ≡ false → spent g S b ≡ false
-        → T .under x a ≡ true → T .under x b ≡ true → a ≡ b
+        → I .gathers .under x a ≡ true → I .gathers .under x b ≡ true → a ≡ b
     one-holder zero x a b l o p u v = absurd (not-suc-le-zero l)
     one-holder (suc n) x a b l o p u v =
         by-bool (spent g S x)
@@ -89,15 +83,15 @@ module _ {A : Type 0} (g : Graph) (M : CommMonoid A) (counts : ℕ → A) where
 
       -- an answer adds what its sender holds to what its receiver holds
       abbrev under′ : ℕ → ℕ → Bool
-      under′ x y = T .under x y || (eqb y j && answers g S i j) && T .under x i
+      under′ x y = I .gathers .under x y || (eqb y j && answers g S i j) && I .gathers .under x i
 
       -- whoever this is no answer of passes on what it passed on
       passed-same : (x y : ℕ) → spent g S′ x ≡ spent g S x
-          → ((eqb y j && answers g S i j) && T .under x i) ≡ ((eqb y j && answers g S i j) && (spent g S x && T .under (S .parent x) i))
+          → ((eqb y j && answers g S i j) && I .gathers .under x i) ≡ ((eqb y j && answers g S i j) && (spent g S x && I .gathers .under (S .parent x) i))
           → under′ x y ≡ (eqb x y || spent g S′ x && under′ (S′ .parent x) y)
       passed-same x y same more =
-          ap₂ (λ (b c : Bool). b || c) (T .passed-on x y) more
-          ∙ pass-more (eqb x y) (spent g S x) (T .under (S .parent x) y) (eqb y j && answers g S i j) (T .under (S .parent x) i)
+          ap₂ (λ (b c : Bool). b || c) (I .gathers .passed-on x y) more
+          ∙ pass-more (eqb x y) (spent g S x) (I .gathers .under (S .parent x) y) (eqb y j && answers g S i j) (I .gathers .under (S .parent x) i)
           ∙ ap (λ (b : Bool). eqb x y || b)
           (by-bool (spent g S x)
           (λ s. rw (same, parent-old g M counts S I i j w x (spent-parts x s .1)))
@@ -132,10 +126,10 @@ module _ {A : Type 0} (g : Graph) (M : CommMonoid A) (counts : ℕ → A) where
         keep-other : (x y : ℕ) → (x ≡ i → ⊥) → under′ x y ≡ (eqb x y || spent g S′ x && under′ (S′ .parent x) y)
         keep-other x y n =
             passed-same x y (spent-kept g M counts S I i j w x (λ p q r. n p))
-            (ap (λ (b : Bool). (eqb y j && answers g S i j) && b) (T .passed-on x i ∙ (rw (ne-eqb x i n))))
+            (ap (λ (b : Bool). (eqb y j && answers g S i j) && b) (I .gathers .passed-on x i ∙ (rw (ne-eqb x i n))))
 
         -- no count is joined twice
-        apart : (x : ℕ) → T .under x j ≡ true → T .under x i ≡ true → ⊥
+        apart : (x : ℕ) → I .gathers .under x j ≡ true → I .gathers .under x i ≡ true → ⊥
         apart x u v = not-self g M counts S I i j w (one-holder (suc (I .rank x)) x i j (omega arith) sender-open receiver-free v u)
 
       keep-passed : (x y : ℕ) → under′ x y ≡ (eqb x y || spent g S′ x && under′ (S′ .parent x) y)
@@ -153,11 +147,15 @@ module _ {A : Type 0} (g : Graph) (M : CommMonoid A) (counts : ℕ → A) where
           (λ e.
           let b = and-both (eqb y j) (answers g S i j) e in
           rw (e, eqb-true y j (b .0))
-          (ap₂ (M .add) (T .gathered j (bounds .1)) (T .gathered i (bounds .0))
-          ∙ sym (chosen-both M (g .size) counts (λ x. T .under x j) (λ x. T .under x i) (apart (b .1)))))
-          (λ e. rw e (T .gathered y l ∙ sum-ext M (g .size) _ _ (λ x m. ap (λ (b : Bool). cond b (counts x) (M .unit)) (sym (or-false (T .under x y))))))
+          (ap₂ (M .add) (I .gathers .gathered j (bounds .1)) (I .gathers .gathered i (bounds .0))
+          ∙ sym (chosen-both M (g .size) counts (λ x. I .gathers .under x j) (λ x. I .gathers .under x i) (apart (b .1)))))
+          (λ e. rw e (I .gathers .gathered y l ∙ sum-ext M (g .size) _ _ (λ x m. ap (λ (b : Bool). cond b (counts x) (M .unit)) (sym (or-false (I .gathers .under x y))))))
 
-  pub gathers-keep : (S : State A) (s : Step) → Inv g M counts S → Gathers g M counts S → Weak g S s → Gathers g M counts (next g M S s)
-  gathers-keep S (message i j) I T w =
-      record { under = under′ S I T i j w; passed-on = keep-passed S I T i j w; gathered = keep-gathered S I T i j w }
-  gathers-keep S report I T w = record { under = T .under; passed-on = T .passed-on; gathered = T .gathered }
+  -- so every step keeps the invariant
+  pub keep-message : (S : State A) (I : Inv g M counts S) (i j : ℕ) → CanSend g S i j → Inv g M counts (next g M S (message i j))
+  keep-message S I i j w =
+      message-kept g M counts S I i j w (record { under = under′ S I i j w; passed-on = keep-passed S I i j w; gathered = keep-gathered S I i j w })
+
+  pub keep : (S : State A) (s : Step) → Inv g M counts S → Weak g S s → Inv g M counts (next g M S s)
+  keep S (message i j) I w = keep-message S I i j w
+  keep S report I w = keep-report g M counts S I w

@@ -1,7 +1,7 @@
--- The wave's invariant: it holds of the fresh state, and every step that the weak guard lets through keeps it. From it: all into the root
--- carried means all carried (T1), and then the root holds the total (T3). Assumes nothing.
+-- The wave's invariant: the fresh state has it, and every step that the weak guard lets through keeps it, but for whose counts a station holds
+-- (`Gathering`). From it: all into the root carried means all carried (T1), and then the root holds the total (T3). Assumes nothing.
 use mathlib.Core.Path.{_≡_, refl, sym, ap, ap₂, _∙_, subst}
-use mathlib.Core.Bool.{Bool, true, false, not, _&&_, cond, and-false}
+use mathlib.Core.Bool.{Bool, true, false, not, _&&_, _||_, cond, and-false}
 use Prim.Native.Nat.{ℕ, zero, suc, _<_, _≤_}
 use native.Mathlib.Nat.{not-suc-le-zero}
 use native.Mathlib.Omega.{arith}
@@ -14,7 +14,8 @@ use Rattle.finite.specs.internal.Monoid.{CommMonoid, addition, sumTo}
 use Rattle.finite.proofs.Sums.{except, sum-ext, sum-unit, sum-extract, sum-move, sum-bump, sum-le, indicator-le, indicators-le}
 use Rattle.wave.specs.internal.Graph.{Graph}
 use Rattle.finite.specs.Links.{Chain, here, link}
-use Rattle.wave.specs.internal.Wave.{Step, message, report, State, answers, fresh, next, Heard, CanSend, CanReport, Weak}
+use Rattle.wave.specs.internal.Wave.{message, report, State, answers, fresh, next, Heard, CanSend, CanReport}
+use Rattle.wave.specs.internal.Tree.{chosen}
 
 -- i has answered, so that its value is in its parent's
 abbrev pub spent : {A : Type 0} → Graph → State A → ℕ → Bool
@@ -27,6 +28,13 @@ weight g M S i = cond (spent g S i) (M .unit) (S .value i)
 -- how many stations are awake
 abbrev pub awakes : {A : Type 0} → Graph → State A → ℕ
 awakes g S = sumTo addition (g .size) (λ x. indicator (S .awake x))
+
+-- whose counts are in what the stations hold
+pub record Gathers {A : Type 0} (g : Graph) (M : CommMonoid A) (counts : ℕ → A) (S : State A) : Type 0 where
+  -- x's count is in what i holds: x is i, or x has answered and its count is, with its parent's, in what i holds
+  pub under : ℕ → ℕ → Bool
+  pub passed-on : (x i : ℕ) → under x i ≡ (eqb x i || spent g S x && under (S .parent x) i)
+  pub gathered : (i : ℕ) → i < g .size → S .value i ≡ chosen M (g .size) counts (λ x. under x i)
 
 -- what holds of every state that the wave reaches
 pub record Inv {A : Type 0} (g : Graph) (M : CommMonoid A) (counts : ℕ → A) (S : State A) : Type 0 where
@@ -43,9 +51,9 @@ pub record Inv {A : Type 0} (g : Graph) (M : CommMonoid A) (counts : ℕ → A) 
   pub low : (j : ℕ) → S .awake j ≡ true → rank j < awakes g S
   -- who has answered has heard from all its neighbours
   pub answered : (i : ℕ) → S .awake i ≡ true → (i ≡ g .root → ⊥) → S .carried i (S .parent i) ≡ true → Heard g S i
-  -- the values of the root and of all who have not answered join to the total, of which each value is a part
+  -- the values of the root and of all who have not answered join to the total; each is a joining of counts
   pub conserved : sumTo M (g .size) (weight g M S) ≡ sumTo M (g .size) counts
-  pub parts : (i : ℕ) → i < g .size → (rest : A) × (M .add (S .value i) rest ≡ sumTo M (g .size) counts)
+  pub gathers : Gathers g M counts S
   -- after the report all is carried
   pub ended : S .reported ≡ true → (i j : ℕ) → g .adj i j ≡ true → S .carried i j ≡ true
 
@@ -66,8 +74,8 @@ module _ {A : Type 0} (g : Graph) (M : CommMonoid A) (counts : ℕ → A) where
       let one : indicator (eqb r r) ≡ 1 = rw (eqb-self r) in
       omega (arith, one, sum-extract addition (g .size) r (λ x. indicator (eqb x r)) (g .root-in))
 
-  pub fresh-inv : Inv g M counts (fresh g counts)
-  fresh-inv =
+  pub fresh-kept : Gathers g M counts (fresh g counts) → Inv g M counts (fresh g counts)
+  fresh-kept gathers =
       record {
         rank = λ i. 0;
         sent = λ i j e. clash e refl;
@@ -78,7 +86,7 @@ module _ {A : Type 0} (g : Graph) (M : CommMonoid A) (counts : ℕ → A) where
         low = λ j e. root-counts;
         answered = λ i e n c. clash c refl;
         conserved = sum-ext M (g .size) _ _ (λ i l. rw and-false);
-        parts = λ i l. (sumTo M (g .size) (except M i counts), sym (sum-extract M (g .size) i counts l));
+        gathers = gathers;
         ended = λ e. clash e refl;
       }
 
@@ -278,20 +286,8 @@ module _ {A : Type 0} (g : Graph) (M : CommMonoid A) (counts : ℕ → A) where
       keep-conserved : sumTo M (g .size) (weight g M S′) ≡ sumTo M (g .size) counts
       keep-conserved = by-bool (answers g S i j) keep-answer keep-start ∙ I .conserved
 
-      keep-parts : (x : ℕ) → x < g .size → (rest : A) × (M .add (S′ .value x) rest ≡ sumTo M (g .size) counts)
-      keep-parts x l =
-          by-bool (eqb x j && answers g S i j)
-          (λ e.
-          let b = and-both (eqb x j) (answers g S i j) e in (
-            sumTo M (g .size) (except M j (weight g M S′)),
-            ap (λ (v : A). M .add v (sumTo M (g .size) (except M j (weight g M S′)))) (ap (λ (c : Bool). cond c (M .add (S .value j) (S .value i)) (S .value x)) e ∙ sym (receives (b .1)))
-                ∙ sym (sum-extract M (g .size) j (weight g M S′) (g .within i j (w .adjacent) .1))
-                ∙ keep-conserved,
-          ))
-          (λ e. rw e (I .parts x l))
-
-      pub keep-message : Inv g M counts S′
-      keep-message =
+      pub message-kept : Gathers g M counts S′ → Inv g M counts S′
+      message-kept gathers =
           record {
             rank = rank′;
             sent = keep-sent;
@@ -302,7 +298,7 @@ module _ {A : Type 0} (g : Graph) (M : CommMonoid A) (counts : ℕ → A) where
             low = keep-low;
             answered = keep-answered;
             conserved = keep-conserved;
-            parts = keep-parts;
+            gathers = gathers;
             ended = λ e a b c. carried-old a b (I .ended e a b c);
           }
 
@@ -318,13 +314,9 @@ module _ {A : Type 0} (g : Graph) (M : CommMonoid A) (counts : ℕ → A) where
           low = I .low;
           answered = I .answered;
           conserved = I .conserved;
-          parts = I .parts;
+          gathers = record { under = I .gathers .under; passed-on = I .gathers .passed-on; gathered = I .gathers .gathered };
           ended = λ e. all-carried r;
         }
-
-  pub keep : (S : State A) (s : Step) → Inv g M counts S → Weak g S s → Inv g M counts (next g M S s)
-  keep S (message i j) I w = keep-message S I i j w
-  keep S report I w = keep-report S I w
 
   module _ (S : State A) (I : Inv g M counts S) where
     pub all-awake : ((i j : ℕ) → g .adj i j ≡ true → S .carried i j ≡ true) → (i : ℕ) → Chain (g .adj) (g .root) i → S .awake i ≡ true

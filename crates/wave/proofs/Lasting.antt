@@ -1,4 +1,4 @@
--- What lasts while the wave runs: the second invariant, the parent of a station that is awake, and what a station that has heard all holds.
+-- What lasts while the wave runs: the parent of a station that is awake, and what a station that has heard all holds.
 -- And a list of moves, taken apart at one of them. Assumes nothing.
 use mathlib.Core.Path.{_≡_, refl, sym, ap, ap₂, _∙_}
 use mathlib.Core.Bool.{Bool, true, false}
@@ -13,16 +13,10 @@ use Rattle.finite.proofs.Cases.{clash, by-bool, and-both}
 use Rattle.wave.specs.internal.Graph.{Graph}
 use Rattle.wave.specs.internal.Wave.{Step, message, report, State, next, Heard, Weak}
 use Rattle.wave.specs.internal.Claim.{same, times, Runs, reached}
-use Rattle.wave.proofs.Invariant.{Inv, keep, carried-old, awake-old, parent-old}
-use Rattle.wave.proofs.Gathering.{Gathers, gathers-keep}
+use Rattle.wave.proofs.Invariant.{Inv, carried-old, awake-old, parent-old}
+use Rattle.wave.proofs.Gathering.{keep}
 
 module _ {A : Type 0} (g : Graph) (M : CommMonoid A) (counts : ℕ → A) where
-  pub gathers-after : (S : State A) (ss : List Step) → Inv g M counts S → Gathers g M counts S → Runs (Weak g) (next g M) S ss
-      → Gathers g M counts (reached (next g M) S ss)
-  gathers-after S [] I T l = T
-  gathers-after S (s ∷ ss) I T l =
-      gathers-after (next g M S s) ss (keep g M counts S s I (l .0)) (gathers-keep g M counts S s I T (l .0)) (l .1)
-
   -- once a station is awake, its parent never changes
   pub parent-lasts : (S : State A) (ss : List Step) (x : ℕ) → Inv g M counts S → Runs (Weak g) (next g M) S ss → S .awake x ≡ true
       → reached (next g M) S ss .parent x ≡ S .parent x

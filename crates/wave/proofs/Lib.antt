@@ -1,11 +1,11 @@
 pub mod Carried
 pub mod Pairs
 pub mod Invariant
+pub mod Gathering
 pub mod Progress
 pub mod Trace
 pub mod Refinement
 pub mod Theorem
-pub mod Gathering
 pub mod Tree
 pub mod Lasting
 pub mod TreeTheorem

@@ -16,7 +16,8 @@ use Rattle.finite.specs.Links.{links}
 use Rattle.wave.specs.internal.Wave.{Step, message, report, State, fresh, next, Weak, Strong}
 use Rattle.wave.specs.internal.Claim.{times, Runs, reached, AtRest, WaveClaim}
 use Rattle.wave.proofs.Pairs.{pairs, pairs-none, pairs-le, pairs-links}
-use Rattle.wave.proofs.Invariant.{Inv, fresh-inv, keep, root-holds-total}
+use Rattle.wave.proofs.Invariant.{Inv, root-holds-total}
+use Rattle.wave.proofs.Gathering.{fresh-inv, keep}
 use Rattle.wave.proofs.Progress.{some-step}
 use Rattle.wave.proofs.Trace.{no-step, inv-after, times-message, times-report, count, report-ends}
 

@@ -16,7 +16,8 @@ use Rattle.wave.proofs.Pairs.{pairs, pairs-bump}
 use Rattle.wave.specs.internal.Graph.{Graph}
 use Rattle.wave.specs.internal.Wave.{Step, message, report, State, next, Weak}
 use Rattle.wave.specs.internal.Claim.{times, Runs, reached}
-use Rattle.wave.proofs.Invariant.{Inv, keep}
+use Rattle.wave.proofs.Invariant.{Inv}
+use Rattle.wave.proofs.Gathering.{keep}
 
 -- a mark set where there was none counts once
 indicator-or : (t c : Bool) → (t ≡ true → c ≡ false) → indicator (t || c) ≡ indicator t + indicator c

@@ -13,10 +13,9 @@ use Rattle.wave.specs.internal.Graph.{Graph}
 use Rattle.wave.specs.internal.Wave.{State}
 use Rattle.wave.specs.internal.Tree.{TreeBehind}
 use Rattle.wave.proofs.Invariant.{Inv, rank-below, all-awake}
-use Rattle.wave.proofs.Gathering.{Gathers}
 use Rattle.finite.proofs.Hops.{hop-add, leads-hop, hop-leads, hop-stays, leads-stays, hop-alike, leads-alike}
 
-module _ {A : Type 0} (g : Graph) (M : CommMonoid A) (counts : ℕ → A) (S : State A) (I : Inv g M counts S) (T : Gathers g M counts S)
+module _ {A : Type 0} (g : Graph) (M : CommMonoid A) (counts : ℕ → A) (S : State A) (I : Inv g M counts S)
     (all : (i j : ℕ) → g .adj i j ≡ true → S .carried i j ≡ true) where
   up : (x : ℕ) → x < g .size → S .awake x ≡ true
   up x l = all-awake g M counts S I all x (g .joined x l)
@@ -49,13 +48,13 @@ module _ {A : Type 0} (g : Graph) (M : CommMonoid A) (counts : ℕ → A) (S : S
       (suc (w .0), omega (arith, w .1), w .2))
 
   -- all but the root have answered, so a count is in what i holds where parents lead to i
-  under-root : (i : ℕ) → T .under (g .root) i ≡ eqb (g .root) i
-  under-root i = T .passed-on (g .root) i ∙ (rw (eqb-self (g .root), or-false))
+  under-root : (i : ℕ) → I .gathers .under (g .root) i ≡ eqb (g .root) i
+  under-root i = I .gathers .passed-on (g .root) i ∙ (rw (eqb-self (g .root), or-false))
 
-  under-below : (x i : ℕ) → x < g .size → (x ≡ g .root → ⊥) → T .under x i ≡ (eqb x i || T .under (S .parent x) i)
-  under-below x i l n = T .passed-on x i ∙ (rw (ne-eqb x (g .root) n, all x (S .parent x) (near x l n)))
+  under-below : (x i : ℕ) → x < g .size → (x ≡ g .root → ⊥) → I .gathers .under x i ≡ (eqb x i || I .gathers .under (S .parent x) i)
+  under-below x i l n = I .gathers .passed-on x i ∙ (rw (ne-eqb x (g .root) n, all x (S .parent x) (near x l n)))
 
-  leads-under : (n x i : ℕ) → x < g .size → I .rank x ≤ n → leads (S .parent) n x i ≡ T .under x i
+  leads-under : (n x i : ℕ) → x < g .size → I .rank x ≤ n → leads (S .parent) n x i ≡ I .gathers .under x i
   unfolding leads
   leads-under zero x i l r =
       by-eq x (g .root)
@@ -94,7 +93,7 @@ module _ {A : Type 0} (g : Graph) (M : CommMonoid A) (counts : ℕ → A) (S : S
           λ w. any-hops j i (w .0) l (w .1),
         );
         sums = λ i l.
-            T .gathered i l
+            I .gathers .gathered i l
             ∙ sum-ext M (g .size) _ _ (λ x m. ap (λ (b : Bool). cond b (counts x) (M .unit)) (sym (leads-under (g .size - 1) x i m (rank-high x m))));
       }
 

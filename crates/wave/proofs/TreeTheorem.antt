@@ -13,11 +13,11 @@ use Rattle.wave.specs.internal.Graph.{Graph}
 use Rattle.wave.specs.internal.Wave.{message, report, State, answers, fresh, next, Heard, CanSend, Weak}
 use Rattle.wave.specs.internal.Claim.{times, Runs, reached}
 use Rattle.wave.specs.internal.Tree.{totalThrough, TreeBehind, Records, SentUp, ParentsStay}
-use Rattle.wave.proofs.Invariant.{Inv, fresh-inv, answers-both, answers-is}
-use Rattle.wave.proofs.Gathering.{fresh-gathers}
+use Rattle.wave.proofs.Invariant.{Inv, answers-both, answers-is}
+use Rattle.wave.proofs.Gathering.{fresh-inv}
 use Rattle.wave.proofs.Trace.{inv-after, times-report}
 use Rattle.wave.proofs.Refinement.{Refinement, stands, refinement-demand}
-use Rattle.wave.proofs.Lasting.{gathers-after, parent-lasts, value-lasts, reached-then, runs-then, found}
+use Rattle.wave.proofs.Lasting.{parent-lasts, value-lasts, reached-then, runs-then, found}
 use Rattle.wave.proofs.Tree.{tree-behind, parents-in, tree-alike}
 
 module _ {A : Type 0} (g : Graph) (M : CommMonoid A) (counts : ℕ → A) where
@@ -86,11 +86,10 @@ module _ {A : Type 0} (g : Graph) (M : CommMonoid A) (counts : ℕ → A) where
           let S = reached (next g M) (fresh g counts) made in
           let p = stands g M counts K (K .opened) (fresh g counts) ms (K .opened-stands) (fresh-inv g M counts) runs in
           let I = inv-after g M counts (fresh g counts) made (fresh-inv g M counts) (p .0) in
-          let T = gathers-after g M counts (fresh g counts) made (fresh-inv g M counts) (fresh-gathers g M counts) (p .0) in
           let reported : indicator (S .reported) ≡ 1 = omega (arith, times-report g M counts (fresh g counts) made (p .0), one) in
           let all = I .ended (indicator-one (S .reported) reported) in
           tree-alike (g .size) (g .root) (g .adj) M counts (D .parent left) (S .parent) (D .held left) (S .value) (g .root-in)
-          (Z .parent-is left S (p .1)) (parents-in g M counts S I T all) (Z .held-is left S (p .1)) (tree-behind g M counts S I T all)
+          (Z .parent-is left S (p .1)) (parents-in g M counts S I all) (Z .held-is left S (p .1)) (tree-behind g M counts S I all)
 
       -- who may answer has heard all, so what it holds is what it holds in the end
       pub answer-up : (front ahead : List (K .Move)) (t : Moment front ahead) (i j : ℕ) → CanSend g (t .before) i j → answers g (t .before) i j ≡ true

@@ -32,7 +32,7 @@ pub trait SheetCalls {
 }
 
 pub trait NetCalls<N> {
-    fn fresh(&self, map: &Map, net: &mut N) -> Result<(), Refusal>;
+    fn fresh(&self, map: &Map, way: u8, net: &mut N) -> Result<(), Refusal>;
 
     /// A step and a draw give the step made.
     fn step(&self, net: &mut N, step: Step) -> Result<Step, Refusal>;
@@ -113,8 +113,8 @@ impl SheetCalls for Model {
 }
 
 impl<N: Net> NetCalls<N> for Model {
-    fn fresh(&self, map: &Map, net: &mut N) -> Result<(), Refusal> {
-        *net = N::fresh(map)?;
+    fn fresh(&self, map: &Map, way: u8, net: &mut N) -> Result<(), Refusal> {
+        *net = N::fresh(map, way)?;
         Ok(())
     }
 

@@ -5,11 +5,11 @@ use crate::calls::{MapCalls, NetCalls, SheetCalls, StationCalls};
 use crate::gen::map::all_linked;
 use crate::gen::net::Sample;
 use crate::gen::station::events;
-use crate::model::aggregate::{Aggregate, Cell};
+use crate::model::aggregate::{Aggregate, Cell, GREATEST, LEAST, NONE, NUMBER, SUM};
 use crate::model::demand::Record;
 use crate::model::map::{stored, Map};
 use crate::model::meet::{Back, Meet, ANSWER, PASS, REPORT, TELL, TOLD, WAKE};
-use crate::model::net::{Net, Step};
+use crate::model::net::{Config, Net, Step};
 use crate::model::refusal::{number, Cause, Refusal};
 use crate::model::station::{Event, Process, Station, ACTIVE, FINISHED};
 use crate::model::{CLASSES, PLACES};
@@ -103,7 +103,13 @@ fn held<const C: usize>(cells: [(u64, u8); C]) -> Aggregate {
 
 /// A record of station 1 that waits for nothing.
 fn active(classes: u8, held: Aggregate) -> Process {
-    Process { own: 1, classes, desk: 0, station: Station { held, unstarted: 0, parent: 0, waits: 0, state: ACTIVE } }
+    Process {
+        own: 1,
+        classes,
+        desk: 0,
+        way: SUM,
+        station: Station { held, unstarted: 0, parent: 0, waits: 0, state: ACTIVE },
+    }
 }
 
 /// One station: missing numbers at their bound, in a record and handed over. "A missing number above 64 is out of form;
@@ -480,6 +486,7 @@ pub fn nets<N: Sample>(subject: &impl NetCalls<N>) {
     missing_at_its_bound(subject);
     classes_of_a_net(subject);
     desks_of_a_net(subject);
+    ways_of_a_net(subject);
 }
 
 /// "Each class reports its own total", for every c.
@@ -522,7 +529,7 @@ fn desks_of_a_net<N: Sample>(subject: &impl NetCalls<N>) {
         }
         assert!(!subject.run(&mut net, &vec![0; 2 * k - 2]).at_rest);
         assert_eq!(subject.draw(&mut net, 0), Ok(report(desk)), "every order ends in that desk's report");
-        assert_eq!(net.stations()[usize::from(desk)].held, map.total());
+        assert_eq!(net.stations()[usize::from(desk)].held, map.total(SUM));
         assert!(subject.run(&mut net, &[]).at_rest);
     }
     for desk in [3, 64, 255] {
@@ -531,7 +538,7 @@ fn desks_of_a_net<N: Sample>(subject: &impl NetCalls<N>) {
         is_out_of_form(subject, net);
         let mut unopened: N = fresh(subject, &alone());
         let before = unopened.clone();
-        let opened = subject.fresh(&Map { desk, ..triangle() }, &mut unopened);
+        let opened = subject.fresh(&Map { desk, ..triangle() }, SUM, &mut unopened);
         assert_eq!(opened, Err(Cause::Desk.alone()));
         assert!(unopened == before, "a refusal leaves the net");
     }
@@ -585,9 +592,49 @@ fn report_is_last<N: Sample>(subject: &impl NetCalls<N>) {
 }
 
 fn fresh<N: Sample>(subject: &impl NetCalls<N>, map: &Map) -> N {
-    let mut net = N::set_up(&alone());
-    subject.fresh(map, &mut net).expect("the map is accepted");
+    opened(subject, map, SUM)
+}
+
+fn opened<N: Sample>(subject: &impl NetCalls<N>, map: &Map, way: u8) -> N {
+    let mut net = N::set_up(&alone(), SUM);
+    subject.fresh(map, way, &mut net).expect("the map is accepted");
     net
+}
+
+/// The four ways (document 02, request 10): three heads, of which two classes miss readings, and three without any, in two
+/// orders of steps; ways that there are none of, opened and in a net; none where it is out of form.
+fn ways_of_a_net<N: Sample>(subject: &impl NetCalls<N>) {
+    let silent = map_of(42, &[([NO_READING], 6), ([NO_READING], 5), ([NO_READING], 3)]);
+    for (way, [a, b, c], none) in [
+        (SUM, [(23, 0), (4, 1), (2, 2)], 0),
+        (GREATEST, [(11, 0), (3, 1), (2, 2)], NONE),
+        (LEAST, [(5, 0), (1, 1), (2, 2)], NONE),
+        (NUMBER, [(3, 0), (2, 1), (1, 2)], 0),
+    ] {
+        for (map, due) in [(three_classes(), held([a, b, c])), (silent, held([(none, 3)]))] {
+            for draws in [[0; 7], [0, 1, 0, 0, 0, 0, 0]] {
+                let mut net: N = opened(subject, &map, way);
+                assert!(subject.run(&mut net, &draws).steps == 7 && net.config().way == way);
+                assert_eq!(net.stations()[0].held, due, "way {way}");
+            }
+        }
+        let mut net: N = opened(subject, &three_classes(), way);
+        net.stations_mut()[2].held.sums[1] = NONE;
+        if none == NONE {
+            assert_eq!(subject.run(&mut net, &[0; 7]).steps, 7, "none is in form under way {way}");
+        } else {
+            is_out_of_form(subject, net);
+        }
+    }
+    for way in [4, 128, 255] {
+        let mut net: N = fresh(subject, &triangle());
+        let before = net.clone();
+        assert_eq!(subject.fresh(&triangle(), way, &mut net), Err(Cause::OutOfRange.alone()), "way {way}");
+        assert_eq!(subject.fresh(&Map { desk: 3, ..triangle() }, way, &mut net), Err(Cause::Desk.alone()));
+        assert!(net == before, "a refusal leaves the net");
+        net.config_mut().way = way;
+        is_out_of_form(subject, net);
+    }
 }
 
 /// A step, and what its sender holds after it.
@@ -782,7 +829,7 @@ pub const TWO_CLASSES_SHEET: [&str; 9] = [
 
 /// The net of a map after its report.
 fn after_report(map: &Map) -> Meet {
-    let mut net = Meet::set_up(map);
+    let mut net = Meet::set_up(map, SUM);
     net.run(&vec![0; Record::whole(map)]);
     net
 }
@@ -804,12 +851,15 @@ pub fn sheets(subject: &impl SheetCalls) {
         let length = text.len();
         assert_eq!(sheet(&map, &net, length), (Ok(length as u32), text));
         refused(&map, &net, length - 1, Cause::BufferTooSmall.with(length as u32));
-        refused(&map, &Meet::set_up(&map), length, Cause::Unreported.alone());
+        refused(&map, &Meet::set_up(&map, SUM), length, Cause::Unreported.alone());
     }
     let (map, net) = (triangle(), after_report(&triangle()));
     refused(&two_classes(), &net, 0, Cause::OtherMap.alone());
     refused(&Map { desk: 2, ..map }, &net, 0, Cause::OtherMap.alone());
-    refused(&Map { lot: 1 << 48, ..map }, &Meet::set_up(&two_classes()), 0, Cause::LotTooLong.alone());
+    refused(&Map { lot: 1 << 48, ..map }, &Meet::set_up(&two_classes(), SUM), 0, Cause::LotTooLong.alone());
+    for way in [GREATEST, LEAST, NUMBER] {
+        refused(&map, &Meet { config: Config { way, ..net.config }, ..net.clone() }, 0, Cause::OtherMap.alone());
+    }
     let mut wide = net.clone();
     wide.stations[0].held.put(0, Cell { sum: 999_999_999_999, missing: 64 });
     let last = "T  1 999999999999 64                    \n";

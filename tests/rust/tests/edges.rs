@@ -1,4 +1,4 @@
-//! Document 01's examples on the model, those marked * too, and the edges of document 02, requests 1, 2, 7, 8 and 9.
+//! Document 01's examples on the model, those marked * too, and the edges of document 02, requests 1, 2, 7, 8, 9 and 10.
 
 use conformance::calls::Model;
 use conformance::edges;

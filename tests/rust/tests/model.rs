@@ -6,7 +6,7 @@ use conformance::compare::{apart, map, net, program, sheet, station, tree};
 use conformance::edges;
 use conformance::gen::aggregate;
 use conformance::gen::net::any;
-use conformance::model::aggregate::{Aggregate, Cell};
+use conformance::model::aggregate::{Aggregate, Cell, GREATEST, LEAST, NONE};
 use conformance::model::mail::{Mail, Message, Outbox};
 use conformance::model::meet::{Back, Meet, ANSWER, PASS, REPORT, WAKE};
 use conformance::model::net::{Net, Step};
@@ -162,7 +162,12 @@ fn figure_2(net: &Meet, step: Step) -> Option<Meet> {
         ANSWER => {
             let (held, given) = (&mut next.stations[to_receiver].held, sender.held);
             for class in 0..usize::from(net.config.classes) {
-                held.sums[class] += given.sums[class];
+                held.sums[class] = match (net.config.way, held.sums[class], given.sums[class]) {
+                    (GREATEST | LEAST, NONE, sum) | (GREATEST | LEAST, sum, NONE) => sum,
+                    (GREATEST, mine, theirs) => mine.max(theirs),
+                    (LEAST, mine, theirs) => mine.min(theirs),
+                    (_, mine, theirs) => mine + theirs,
+                };
                 held.missing[class] += given.missing[class];
             }
             next.stations[to_receiver].waits = receiver.waits.saturating_sub(1);

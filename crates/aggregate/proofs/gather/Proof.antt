@@ -9,10 +9,10 @@ use Rattle.aggregate.proofs.gather.Statement.{statement}
 use Rattle.aggregate.proofs.gather.Tie as tie
 
 abbrev Inv-loop : tie.InvT-loop
-Inv-loop r c sums₀ missing₀ i₀ sums missing i = (i ≤ c) × Storing (λ j. cellGathered (getD (r .counts) j 0)) (replicate 8 0) (replicate 8 0) sums missing i
+Inv-loop r c way sums₀ missing₀ i₀ sums missing i = (i ≤ c) × Storing (λ j. cellGathered way (getD (r .counts) j 0)) (replicate 8 0) (replicate 8 0) sums missing i
 
 abbrev μ-loop : tie.MeasureT-loop
-μ-loop r c sums₀ missing₀ i₀ sums missing i = c - i
+μ-loop r c way sums₀ missing₀ i₀ sums missing i = c - i
 
 count-used-requires : tie.Need-count-used-requires Inv-loop μ-loop
 count-used-requires c κs = tt
@@ -46,10 +46,10 @@ loop-less c = omega arith
 
 loop-again : tie.Need-loop-again Inv-loop μ-loop
 loop-again c =
-    let r = c .before .before .before .before .before .args .t2 in
+    let args = c .before .before .before .before .before .args in
     let l = c .before .before .before .loop in (
       omega arith,
-      storing-more (λ j. cellGathered (getD (r .counts) j 0)) (replicate 8 0) (replicate 8 0) refl refl (l .sums) (l .missing) (l .i) (l .inv .1)
+      storing-more (λ j. cellGathered (args .t .way) (getD (args .t2 .counts) j 0)) (replicate 8 0) (replicate 8 0) refl refl (l .sums) (l .missing) (l .i) (l .inv .1)
           (c .gather-cell .result) (c .gather-cell .ensures),
     )
 
@@ -59,7 +59,7 @@ returns c =
     let args = c .before .before .before .args in
     let l = c .before .loop in
     let end : l .i ≡ min (args .t .classes) 8 = omega arith in
-    storing-all (λ j. cellGathered (getD (args .t2 .counts) j 0)) (replicate 8 0) (replicate 8 0) refl refl (l .sums) (l .missing) (l .i) (l .inv .1)
+    storing-all (λ j. cellGathered (args .t .way) (getD (args .t2 .counts) j 0)) (replicate 8 0) (replicate 8 0) refl refl (l .sums) (l .missing) (l .i) (l .inv .1)
     (min (args .t .classes) 8) (λ j. zeroCell) end (λ j h. getD-replicate 8 j 0 0 h) (λ j h. getD-replicate 8 j 0 0 h)
 
 pub gather-spec : {M : Type 1} → statement M

@@ -11,10 +11,10 @@ use Rattle.aggregate.proofs.is_bounded.Statement.{statement}
 use Rattle.aggregate.proofs.is_bounded.Tie as tie
 
 abbrev Inv-loop : tie.InvT-loop
-Inv-loop a c i₀ i = (i ≤ c) × (allBelow i (λ j. cellBounded (cell a j)) ≡ true)
+Inv-loop a c way i₀ i = (i ≤ c) × (allBelow i (λ j. cellBounded way (cell a j)) ≡ true)
 
 abbrev μ-loop : tie.MeasureT-loop
-μ-loop a c i₀ i = c - i
+μ-loop a c way i₀ i = c - i
 
 count-used-requires : tie.Need-count-used-requires Inv-loop μ-loop
 count-used-requires c κs = tt
@@ -23,14 +23,14 @@ loop-holds : tie.Need-loop-holds Inv-loop μ-loop
 unfolding allBelow
 loop-holds c = (omega arith, refl)
 
-mul-t8 : tie.Need-mul-t8 Inv-loop μ-loop
-mul-t8 c = omega arith
+mul-t9 : tie.Need-mul-t9 Inv-loop μ-loop
+mul-t9 c = omega arith
 
-element-copy-out-t11 : tie.Need-element-copy-out-t11 Inv-loop μ-loop
-element-copy-out-t11 c = omega arith
+element-copy-out-t12 : tie.Need-element-copy-out-t12 Inv-loop μ-loop
+element-copy-out-t12 c = omega arith
 
-element-copy-out-t14 : tie.Need-element-copy-out-t14 Inv-loop μ-loop
-element-copy-out-t14 c = omega arith
+element-copy-out-t15 : tie.Need-element-copy-out-t15 Inv-loop μ-loop
+element-copy-out-t15 c = omega arith
 
 is-cell-bounded-requires : tie.Need-is-cell-bounded-requires Inv-loop μ-loop
 is-cell-bounded-requires c κs = tt
@@ -38,9 +38,9 @@ is-cell-bounded-requires c κs = tt
 returns : tie.Need-returns Inv-loop μ-loop
 unfolding bounded
 returns c =
-    let a = c .before .before .before .before .before .before .before .args .t2 in
+    let args = c .before .before .before .before .before .before .before .args in
     let l = c .before .before .before .before .before .loop in
-    sym (all-below-fails (λ j. cellBounded (cell a j)) _ (l .i) (omega arith) (sym (c .before .is-cell-bounded .ensures) ∙ not-true _ (c .if1 .taken)))
+    sym (all-below-fails (λ j. cellBounded (args .t .way) (cell (args .t2) j)) _ (l .i) (omega arith) (sym (c .before .is-cell-bounded .ensures) ∙ not-true _ (c .if1 .taken)))
 
 add-i : tie.Need-add-i Inv-loop μ-loop
 add-i c = omega arith
@@ -50,10 +50,10 @@ loop-less c = omega arith
 
 loop-again : tie.Need-loop-again Inv-loop μ-loop
 loop-again c =
-    let a = c .before .before .before .before .before .before .before .args .t2 in
+    let args = c .before .before .before .before .before .before .before .args in
     let l = c .before .before .before .before .before .loop in (
       omega arith,
-      all-below-more (λ j. cellBounded (cell a j)) (l .i)
+      all-below-more (λ j. cellBounded (args .t .way) (cell (args .t2) j)) (l .i)
           ∙ ap₂ (λ (x y : Bool). x && y) (l .inv .1) (sym (c .before .is-cell-bounded .ensures) ∙ not-false _ (c .if1 .left)),
     )
 
@@ -72,9 +72,9 @@ is-bounded-spec =
     μ-loop
     count-used-requires
     loop-holds
-    mul-t8
-    element-copy-out-t11
-    element-copy-out-t14
+    mul-t9
+    element-copy-out-t12
+    element-copy-out-t15
     is-cell-bounded-requires
     returns
     add-i

@@ -1,7 +1,7 @@
 -- `aggregate::join` meets its contract: class by class, the joined cell is stored over the first's places. Assumes nothing.
 use mathlib.Core.Path.{_≡_, refl, sym, ap₂, _∙_}
 use mathlib.Core.Bool.{Bool, true, false, not, _&&_}
-use Prim.Native.Nat.{ℕ, _^_, _≤_, _<_, _-_, min}
+use Prim.Native.Nat.{ℕ, _+_, _≤_, _<_, _-_, min}
 use lib.ListN.{length, length-map}
 use borrow.Author.Tests.{not-true, not-false}
 use Rattle.finite.specs.Below.{allBelow}
@@ -10,6 +10,7 @@ use Rattle.finite.proofs.Below.{all-below-more}
 use Rattle.aggregate.specs.declared.Config.{Config}
 use Rattle.aggregate.specs.declared.Aggregate.{Aggregate}
 use Rattle.aggregate.specs.Aggregate.{used, cell, cellBounded, bounded, cellJoined, joined, joinable}
+use Rattle.aggregate.specs.internal.Joining.{pair}
 use Rattle.aggregate.proofs.Places.{Storing, storing-none, storing-more, storing-all}
 use Rattle.aggregate.proofs.Laws.{cell-parts, bounded-at}
 use native.Mathlib.Omega.{arith}
@@ -17,14 +18,14 @@ use Rattle.aggregate.proofs.join.Statement.{statement}
 use Rattle.aggregate.proofs.join.Tie as tie
 
 abbrev Inv-loop : tie.InvT-loop
-Inv-loop a b classes sums₀ missing₀ class₀ sums missing class =
+Inv-loop a b classes way sums₀ missing₀ class₀ sums missing class =
     (class ≤ classes)
-    × Storing (λ j. cellJoined (cell a j) (cell b j)) (a .sums) (a .missing) sums missing class
-    × (allBelow class (λ j. cellBounded (cell a j)) ≡ true)
-    × (allBelow class (λ j. cellBounded (cell b j)) ≡ true)
+    × Storing (λ j. cellJoined way (cell a j) (cell b j)) (a .sums) (a .missing) sums missing class
+    × (allBelow class (λ j. cellBounded way (cell a j)) ≡ true)
+    × (allBelow class (λ j. cellBounded way (cell b j)) ≡ true)
 
 abbrev μ-loop : tie.MeasureT-loop
-μ-loop a b classes sums₀ missing₀ class₀ sums missing class = classes - class
+μ-loop a b classes way sums₀ missing₀ class₀ sums missing class = classes - class
 
 count-used-requires : tie.Need-count-used-requires Inv-loop μ-loop
 count-used-requires c κs = tt
@@ -62,7 +63,7 @@ is-cell-bounded-requires-2 : tie.Need-is-cell-bounded-requires-2 Inv-loop μ-loo
 is-cell-bounded-requires-2 c κs = tt
 
 -- a class in use that is not bounded, of either
-failed : (t : Config) (a b : Aggregate) (i : ℕ) → i < used t → (p q : Bool) → p ≡ cellBounded (cell a i) → q ≡ cellBounded (cell b i) → not (p && q) ≡ true
+failed : (t : Config) (a b : Aggregate) (i : ℕ) → i < used t → (p q : Bool) → p ≡ cellBounded (t .way) (cell a i) → q ≡ cellBounded (t .way) (cell b i) → not (p && q) ≡ true
     → joinable t a b ≡ false
 failed t a b i l p q e f h =
     by-bool (joinable t a b)
@@ -79,20 +80,20 @@ returns c =
 
 -- past the test both are
 both-passed : (c : tie.Else1 Inv-loop μ-loop) → let s = c .before .before .before .before .before .before .before .before .before .before .before .before in let i = c .before .before .before .before .before .before .before .before .loop .class in
-    (cellBounded (cell (s .args .t2) i) ≡ true) × (cellBounded (cell (s .args .t3) i) ≡ true)
+    (cellBounded (s .args .t .way) (cell (s .args .t2) i) ≡ true) × (cellBounded (s .args .t .way) (cell (s .args .t3) i) ≡ true)
 both-passed c =
     let both = and-both (c .before .before .is-cell-bounded .result) (c .before .is-cell-bounded2 .result) (not-false _ (c .if1 .left)) in
     (sym (c .before .before .is-cell-bounded .ensures) ∙ both .0, sym (c .before .is-cell-bounded2 .ensures) ∙ both .1)
 
--- so their numbers do not wrap
+-- so the missing numbers do not wrap
 passed : (c : tie.Else1 Inv-loop μ-loop) → let s = c .before .before .before .before .before .before .before .before .before .before .before .before in let i = c .before .before .before .before .before .before .before .before .loop .class in
-    ((cell (s .args .t2) i .sum < 2 ^ 62) × (cell (s .args .t2) i .missing ≤ 64)) × ((cell (s .args .t3) i .sum < 2 ^ 62) × (cell (s .args .t3) i .missing ≤ 64))
-passed c = (cell-parts _ (both-passed c .0), cell-parts _ (both-passed c .1))
+    (cell (s .args .t2) i .missing ≤ 64) × (cell (s .args .t3) i .missing ≤ 64)
+passed c = (cell-parts _ _ (both-passed c .0) .1, cell-parts _ _ (both-passed c .1) .1)
 
-add-sums : tie.Need-add-sums Inv-loop μ-loop
-add-sums c =
-    let both = passed (c .before .before) in
-    omega (arith, both .0 .0, both .1 .0)
+join-sums-requires : tie.Need-join-sums-requires Inv-loop μ-loop
+join-sums-requires c κs =
+    let both = both-passed c in
+    (cell-parts _ _ (both .0) .0, cell-parts _ _ (both .1) .0)
 
 mul-sums-3 : tie.Need-mul-sums-3 Inv-loop μ-loop
 mul-sums-3 c = omega arith
@@ -102,8 +103,8 @@ array-write-sums c = omega arith
 
 add-missing : tie.Need-add-missing Inv-loop μ-loop
 add-missing c =
-    let both = passed (c .before .before .before .before) in
-    omega (arith, both .0 .1, both .1 .1)
+    let both = passed (c .before .before .before) in
+    omega (arith, both .0, both .1)
 
 array-write-missing : tie.Need-array-write-missing Inv-loop μ-loop
 array-write-missing c = omega arith
@@ -117,16 +118,17 @@ loop-less c = omega arith
 loop-again : tie.Need-loop-again Inv-loop μ-loop
 unfolding cellJoined
 loop-again c =
-    let s = c .before .before .before .before .before .before .before .before .before .before .before .before .before .before .before .before in
-    let l = c .before .before .before .before .before .before .before .before .before .before .before .before .loop in
+    let s = c .before .before .before .before .before .before .before .before .before .before .before .before .before .before .before in
+    let l = c .before .before .before .before .before .before .before .before .before .before .before .loop in
     let ls : length (s .args .t2 .sums) ≡ 8 = sym (length-map (s .args .t2 .sums) (λ n. n)) ∙ s .good .1 .0 .1 .1 .0 .1 .0 .1 in
     let lm : length (s .args .t2 .missing) ≡ 8 = sym (length-map (s .args .t2 .missing) (λ n. n)) ∙ s .good .1 .0 .1 .1 .1 .0 .1 .0 .1 in
-    let one = both-passed (c .before .before .before .before) in (
+    let one = both-passed (c .before .before .before) in (
       omega arith,
-      storing-more (λ j. cellJoined (cell (s .args .t2) j) (cell (s .args .t3) j)) (s .args .t2 .sums) (s .args .t2 .missing) ls lm (l .sums) (l .missing) (l .class)
-          (l .inv .1) (cellJoined (cell (s .args .t2) (l .class)) (cell (s .args .t3) (l .class))) refl,
-      all-below-more (λ j. cellBounded (cell (s .args .t2) j)) (l .class) ∙ ap₂ (λ (x y : Bool). x && y) (l .inv .2) (one .0),
-      all-below-more (λ j. cellBounded (cell (s .args .t3) j)) (l .class) ∙ ap₂ (λ (x y : Bool). x && y) (l .inv .3) (one .1),
+      storing-more (λ j. cellJoined (s .args .t .way) (cell (s .args .t2) j) (cell (s .args .t3) j)) (s .args .t2 .sums) (s .args .t2 .missing) ls lm (l .sums) (l .missing) (l .class)
+          (l .inv .1) (record { sum = c .before .before .join-sums .result; missing = cell (s .args .t2) (l .class) .missing + cell (s .args .t3) (l .class) .missing })
+          (pair (c .before .before .join-sums .ensures) refl),
+      all-below-more (λ j. cellBounded (s .args .t .way) (cell (s .args .t2) j)) (l .class) ∙ ap₂ (λ (x y : Bool). x && y) (l .inv .2) (one .0),
+      all-below-more (λ j. cellBounded (s .args .t .way) (cell (s .args .t3) j)) (l .class) ∙ ap₂ (λ (x y : Bool). x && y) (l .inv .3) (one .1),
     )
 
 returns-2 : tie.Need-returns-2 Inv-loop μ-loop
@@ -141,7 +143,7 @@ returns-2 c =
     let b : bounded (s .args .t) (s .args .t3) ≡ true = rw end at (l .inv .3) in (
       rw (a, b),
       rw (a, b)
-          (storing-all (λ j. cellJoined (cell (s .args .t2) j) (cell (s .args .t3) j)) (s .args .t2 .sums) (s .args .t2 .missing) ls lm (l .sums) (l .missing) (l .class) (l .inv .1)
+          (storing-all (λ j. cellJoined (s .args .t .way) (cell (s .args .t2) j) (cell (s .args .t3) j)) (s .args .t2 .sums) (s .args .t2 .missing) ls lm (l .sums) (l .missing) (l .class) (l .inv .1)
           (min (s .args .t .classes) 8) (cell (s .args .t2)) end (λ j h. refl) (λ j h. refl)),
     )
 
@@ -162,7 +164,7 @@ join-spec =
     is-cell-bounded-requires
     is-cell-bounded-requires-2
     returns
-    add-sums
+    join-sums-requires
     mul-sums-3
     array-write-sums
     add-missing

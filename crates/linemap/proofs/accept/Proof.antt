@@ -1,11 +1,8 @@
--- `linemap::accept` meets its contract: it refuses the class count, or refuses or accepts as `topology::accept` does, with the root of the
--- map's config. Assumes nothing.
-use mathlib.Core.Path.{sym, ap, _∙_}
-use Prim.Native.Nat.{ℕ}
+-- `linemap::accept` meets its contract: it refuses the class count, or refuses or accepts as `topology::accept` does.
+-- Assumes nothing.
+use mathlib.Core.Path.{sym, _∙_}
 use borrow.Author.Tests.{not-true, not-false}
 use borrow.Author.Needs.{needs}
-use Rattle.aggregate.specs.Aggregate.{rootOf}
-use Rattle.topology.specs.Acceptance.{verdictOf}
 use Rattle.linemap.proofs.accept.Statement.{statement}
 use Rattle.linemap.proofs.accept.Tie as tie
 
@@ -18,23 +15,13 @@ is-class-count-requires c κs = search needs
 returns : tie.Need-returns
 returns c = rw (sym (c .before .is-class-count .ensures) ∙ not-true _ (c .if1 .taken))
 
-config-requires : tie.Need-config-requires
-config-requires c κs = search needs
-
-root-requires : tie.Need-root-requires
-root-requires c κs = search needs
-
 accept-requires : tie.Need-accept-requires
 accept-requires c κs = search needs
 
 returns-2 : tie.Need-returns-2
 returns-2 c =
-    let test = c .before .before .before .before .before in
-    let m = test .before .before .before .args .m in
-    rw (sym (test .before .is-class-count .ensures) ∙ not-false _ (test .if1 .left))
-    (c .accept .ensures
-    ∙ ap (λ (root : ℕ). verdictOf root (m .k) (m .neighbours))
-    (c .before .before .before .root .ensures ∙ ap rootOf (c .before .before .before .before .config .ensures)))
+    let test = c .before .before .before in
+    rw (sym (test .before .is-class-count .ensures) ∙ not-false _ (test .if1 .left)) (c .accept .ensures)
 
 pub accept-spec : {M : Type 1} → statement M
 accept-spec =
@@ -43,7 +30,5 @@ accept-spec =
     cast-is-class-count
     is-class-count-requires
     returns
-    config-requires
-    root-requires
     accept-requires
     returns-2)

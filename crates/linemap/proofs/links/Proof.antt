@@ -1,11 +1,8 @@
--- `linemap::links` meets its contract: it refuses the class count, or counts links as `topology::links` does, with the root of the
--- map's config. Assumes nothing.
-use mathlib.Core.Path.{sym, ap, _∙_}
-use Prim.Native.Nat.{ℕ}
+-- `linemap::links` meets its contract: it refuses the class count, or counts links as `topology::links` does.
+-- Assumes nothing.
+use mathlib.Core.Path.{sym, _∙_}
 use borrow.Author.Tests.{not-true, not-false}
 use borrow.Author.Needs.{needs}
-use Rattle.aggregate.specs.Aggregate.{rootOf}
-use Rattle.topology.specs.Acceptance.{linksOf}
 use Rattle.linemap.proofs.links.Statement.{statement}
 use Rattle.linemap.proofs.links.Tie as tie
 
@@ -18,23 +15,13 @@ is-class-count-requires c κs = search needs
 returns : tie.Need-returns
 returns c = rw (sym (c .before .is-class-count .ensures) ∙ not-true _ (c .if1 .taken))
 
-config-requires : tie.Need-config-requires
-config-requires c κs = search needs
-
-root-requires : tie.Need-root-requires
-root-requires c κs = search needs
-
 links-requires : tie.Need-links-requires
 links-requires c κs = search needs
 
 returns-2 : tie.Need-returns-2
 returns-2 c =
-    let test = c .before .before .before .before .before in
-    let m = test .before .before .before .args .m in
-    rw (sym (test .before .is-class-count .ensures) ∙ not-false _ (test .if1 .left))
-    (c .links .ensures
-    ∙ ap (λ (root : ℕ). linksOf root (m .k) (m .neighbours))
-    (c .before .before .before .root .ensures ∙ ap rootOf (c .before .before .before .before .config .ensures)))
+    let test = c .before .before .before in
+    rw (sym (test .before .is-class-count .ensures) ∙ not-false _ (test .if1 .left)) (c .links .ensures)
 
 pub links-spec : {M : Type 1} → statement M
 links-spec =
@@ -43,7 +30,5 @@ links-spec =
     cast-is-class-count
     is-class-count-requires
     returns
-    config-requires
-    root-requires
     links-requires
     returns-2)

@@ -7,7 +7,7 @@ use Prim.Native.Nat.{ℕ, _<_}
 use lib.Dec.{eqb}
 use Rattle.aggregate.specs.declared.Aggregate.{Aggregate}
 use Rattle.aggregate.specs.declared.Cell.{Cell}
-use Rattle.aggregate.specs.Aggregate.{rootOf}
+use Rattle.aggregate.specs.Ways.{isWay}
 use Rattle.aggregate.specs.internal.Joining.{cells, joining}
 use Rattle.wave.specs.internal.Wave.{report}
 use Rattle.wave.specs.internal.Claim.{times}
@@ -30,18 +30,19 @@ use Rattle.order.specs.internal.Back.{waveSteps, CarriedBack}
 
 -- "the desk's sum" (Lists of calls): what the root of a net on this map holds
 abbrev pub rootHeld : Map → Net → Aggregate
-rootHeld m net = station net (rootOf (configOf m)) .held
+rootHeld m net = station net (m .desk) .held
 
--- demand 3 for stations that meet, on every accepted map
+-- demand 3 for stations that meet, of every way and on every accepted map
 abbrev pub RendezvousOrdered : Type 0
-RendezvousOrdered = Ordered rules (freshOn false) rootHeld
+RendezvousOrdered = (way : ℕ) → isWay way ≡ true → Ordered rules way (freshOn false way) rootHeld
 
--- "Before the report the sums of stations not finished add up to the map's total" (Stations that meet): on every accepted map, after every list
--- of calls without a report among the steps made, class by class
-abbrev pub ConservedOn : (Map → Net) → (List Step → List Step) → Type 0
+-- "Before the report the sums of stations not finished add up to the map's total" (Stations that meet), joined the way: of every way and on every
+-- accepted map, after every list of calls without a report among the steps made, class by class
+abbrev pub ConservedOn : (ℕ → Map → Net) → (List Step → List Step) → Type 0
 ConservedOn fresh steps =
-    (m : Map) → Fits m → acceptance m ≡ accepted → (calls : List Call) → times report (map (labelOf rules) (steps (callsMade rules (fresh m) calls))) ≡ 0
-    → (j : ℕ) → j < m .classes → unfinished (m .k) (station (callsNet rules (fresh m) calls)) j ≡ totals m j
+    (way : ℕ) → isWay way ≡ true → (m : Map) → Fits m → acceptance m ≡ accepted → (calls : List Call)
+    → times report (map (labelOf rules) (steps (callsMade rules (fresh way m) calls))) ≡ 0
+    → (j : ℕ) → j < m .classes → unfinished way (m .k) (station (callsNet rules (fresh way m) calls)) j ≡ totals way m j
 
 abbrev pub RendezvousConserved : Type 0
 RendezvousConserved = ConservedOn (freshOn false) (λ made. made)
@@ -52,14 +53,14 @@ CarriedConserved = ConservedOn (freshOn true) (waveSteps tell)
 
 -- who knows the total in a net on this map, and what they know, class by class
 abbrev pub knowsOn : Map → Net → ℕ → Bool
-knowsOn m net i = cond (eqb i (rootOf (configOf m))) (eqb (station net (rootOf (configOf m)) .state) finished) (eqb (station net i .state) told)
+knowsOn m net i = cond (eqb i (m .desk)) (eqb (station net (m .desk) .state) finished) (eqb (station net i .state) told)
 
-abbrev pub knownOn : Map → Net → ℕ → ℕ → Cell
-knownOn m net i = cond (eqb i (rootOf (configOf m))) (cells (configOf m) (rootHeld m net)) (cells (configOf m) (keptAt net i))
+abbrev pub knownOn : ℕ → Map → Net → ℕ → ℕ → Cell
+knownOn way m net i = cond (eqb i (m .desk)) (cells (configOf way m) (rootHeld m net)) (cells (configOf way m) (keptAt net i))
 
 -- carrying back (document 02, request 8), on every accepted map
 abbrev pub RendezvousCarried : Type 0
 RendezvousCarried =
-    (m : Map) → Fits m → acceptance m ≡ accepted
-    → CarriedBack rules tell (m .k) (linked (m .k) (m .neighbours)) joining (readings m) (freshOn true m)
-    (λ net. cells (configOf m) (rootHeld m net)) (knowsOn m) (knownOn m)
+    (way : ℕ) → isWay way ≡ true → (m : Map) → Fits m → acceptance m ≡ accepted
+    → CarriedBack rules tell (m .k) (linked (m .k) (m .neighbours)) (joining way) (readings way m) (freshOn true way m)
+    (λ net. cells (configOf way m) (rootHeld m net)) (knowsOn m) (knownOn way m)

@@ -3,6 +3,7 @@ use mathlib.Core.Path.{_≡_, sym, ap, ap₂, _∙_}
 use mathlib.Core.Bool.{true}
 use borrow.Author.Needs.{needs}
 use borrow.Author.Tests.{not-true, not-false}
+use Rattle.aggregate.specs.Ways.{summing}
 use Rattle.aggregate.specs.Aggregate.{rootOf}
 use Rattle.topology.specs.Answer.{isAccepted}
 use Rattle.topology.specs.Acceptance.{faultNumbers, verdictNumbers}
@@ -26,10 +27,10 @@ storable-lot c = sym (c .before .is-storable .ensures) ∙ not-false _ (c .if1 .
 formed-net : (c : tie.Else2) → wellFormed (netIn (c .before .before .before .before .before .before .before .before .args .net .now) (c .before .before .before .before .before .before .before .before .args .totals .now)) ≡ true
 formed-net c = sym (c .before .is-well-formed .ensures) ∙ not-false _ (c .if2 .left)
 
-agrees-so : (c : tie.After-agrees) → c .agrees .result ≡ agrees (configOf (c .before .before .before .before .before .before .before .before .before .before .before .args .m)) (configIn (c .before .before .before .before .before .before .before .before .before .before .before .args .net .now))
+agrees-so : (c : tie.After-agrees) → c .agrees .result ≡ agrees (configOf summing (c .before .before .before .before .before .before .before .before .before .before .before .args .m)) (configIn (c .before .before .before .before .before .before .before .before .before .before .before .args .net .now))
 agrees-so c = c .agrees .ensures ∙ ap₂ agrees (c .before .config .ensures) (c .before .before .config-in .ensures)
 
-alike : (c : tie.Else3) → agrees (configOf (c .before .before .before .before .before .before .before .before .before .before .before .before .args .m)) (configIn (c .before .before .before .before .before .before .before .before .before .before .before .before .args .net .now)) ≡ true
+alike : (c : tie.Else3) → agrees (configOf summing (c .before .before .before .before .before .before .before .before .before .before .before .before .args .m)) (configIn (c .before .before .before .before .before .before .before .before .before .before .before .before .args .net .now)) ≡ true
 alike c = sym (agrees-so (c .before)) ∙ not-false _ (c .if3 .left)
 
 desk-is : (c : tie.After-load) → c .load .result ≡ deskOf (netIn (c .before .before .before .before .before .before .before .before .before .before .before .before .before .before .args .net .now) (c .before .before .before .before .before .before .before .before .before .before .before .before .before .before .args .totals .now))

@@ -3,6 +3,7 @@
 
 use super::Coverage;
 use crate::calls::NetCalls;
+use crate::gen::aggregate::way;
 use crate::gen::call;
 use crate::gen::map::accepted;
 use crate::gen::net::{any, junk, Sample};
@@ -105,7 +106,7 @@ pub fn pairs<N: Sample>(subject: &impl NetCalls<N>, asked: Asked, count: u64) ->
 /// A fresh net of an accepted map, and a list of steps made from it, with the net that it leaves.
 fn list<N: Sample>(subject: &impl NetCalls<N>, rng: &mut Rng, map: &Map) -> (N, Vec<Step>, N) {
     let mut fresh: N = junk(rng);
-    subject.fresh(map, &mut fresh).expect("the map is accepted");
+    subject.fresh(map, way(rng), &mut fresh).expect("the map is accepted");
     let mut net = fresh.clone();
     let count = rng.index(Record::full::<N>(map) + 1).min(LONGEST);
     let draws = call::draws(rng, count);

@@ -8,7 +8,8 @@ pub mod sheet;
 pub mod station;
 pub mod tree;
 
-use crate::model::aggregate::{is_class_count, Aggregate, MOST_MISSING, SUM_LIMIT};
+use crate::model::aggregate::{is_class_count, Aggregate, Cell, MOST_MISSING};
+use crate::model::net::Config;
 use crate::model::MOST_CLASSES;
 use crate::rng;
 use std::collections::BTreeMap;
@@ -19,9 +20,9 @@ const EXCESSES: [&str; 3] = ["sum alone beyond", "missing number alone beyond", 
 /// Of several classes, one alone is.
 const ONE_CLASS: &str = "one class beyond, of several:";
 
-fn excess(gathered: &Aggregate, classes: u8) -> Option<&'static str> {
+fn excess(gathered: &Aggregate, Config { classes, way, .. }: Config) -> Option<&'static str> {
     let [sum, missing, both] = EXCESSES;
-    let sums = gathered.cells(classes).any(|cell| cell.sum >= SUM_LIMIT);
+    let sums = gathered.cells(classes).any(|cell| !Cell { missing: 0, ..cell }.is_bounded(way));
     match (sums, gathered.cells(classes).any(|cell| cell.missing > MOST_MISSING)) {
         (false, false) => None,
         (true, false) => Some(sum),
@@ -32,6 +33,13 @@ fn excess(gathered: &Aggregate, classes: u8) -> Option<&'static str> {
 
 /// Out of form by its desk, and by nothing else.
 const DESK_ALONE: &str = "desk alone beyond";
+
+/// Out of form by its way, and by nothing else.
+const WAY_ALONE: &str = "way alone beyond";
+
+/// Out of form by a none, and by nothing else; and in form with one: the ways.
+const NONE_ALONE: &str = "none alone beyond, way";
+const NONE_IN_FORM: &str = "none in form, way";
 
 /// How often each call met each number: a comparison that never met a refusal says nothing about it.
 #[derive(Default)]
@@ -45,10 +53,11 @@ impl Coverage {
     }
 
     /// By what something gathered is out of form, where it is, and the class where it is one of several.
-    fn note_excess(&mut self, gathered: &Aggregate, classes: u8, number: u8) {
-        let Some(excess) = is_class_count(classes).then(|| excess(gathered, classes)).flatten() else { return };
+    fn note_excess(&mut self, gathered: &Aggregate, config: Config, number: u8) {
+        let Config { classes, way, .. } = config;
+        let Some(excess) = is_class_count(classes).then(|| excess(gathered, config)).flatten() else { return };
         self.note(excess, number);
-        let mut beyond = (0..classes).filter(|&class| !gathered.cell(class.into()).is_bounded());
+        let mut beyond = (0..classes).filter(|&class| !gathered.cell(class.into()).is_bounded(way));
         if let (Some(class), None, true) = (beyond.next(), beyond.next(), classes > 1) {
             self.note(ONE_CLASS, class);
         }

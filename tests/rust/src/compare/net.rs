@@ -1,16 +1,17 @@
 //! Nets of either kind: answer, values and whole net after every call, and demand 3 on every list from a fresh net.
 
-use super::{Coverage, DESK_ALONE};
+use super::{Coverage, DESK_ALONE, NONE_ALONE, NONE_IN_FORM, WAY_ALONE};
 use crate::calls::{Call, Model, NetCalls, Reply};
+use crate::gen::aggregate::{way, way_handed_over, WAYS};
 use crate::gen::call;
 use crate::gen::map::{accepted, accepted_of, all_linked_mixed, handed_over};
 use crate::gen::net::{any, junk, Sample};
-use crate::model::aggregate::Aggregate;
+use crate::model::aggregate::{in_use, Aggregate, GREATEST, LEAST, NONE, NUMBER, SUM};
 use crate::model::demand::{check_run_formula, Record};
 use crate::model::map::{Map, LOT_LIMIT};
 use crate::model::net::Net;
 use crate::model::refusal::number;
-use crate::model::{MOST_CLASSES, MOST_STATIONS};
+use crate::model::{MOST_CLASSES, MOST_STATIONS, PLACES};
 use crate::rng::{for_cases, Rng};
 
 /// One call on the subject and on the model.
@@ -20,6 +21,7 @@ fn compare<N: Net>(subject: &impl NetCalls<N>, net: &mut N, call: &Call, seen: &
     if is_out_by_its_desk(net) {
         seen.note(DESK_ALONE, expected.number());
     }
+    note_way(net, expected.number(), seen);
     let reply = subject.call(net, call);
     assert_eq!(reply, expected, "{call:?}");
     assert_same(net, &due, call);
@@ -32,6 +34,29 @@ fn is_out_by_its_desk<N: Net>(net: &N) -> bool {
     let mut other = net.clone();
     other.config_mut().desk = 0;
     net.config().desk >= net.k() && other.is_well_formed()
+}
+
+/// Whether another way would bring the net into form, and, of a net with a none, whether it is in form and would be without.
+fn note_way<N: Net>(net: &N, number: u8, seen: &mut Coverage) {
+    let mut other = net.clone();
+    other.config_mut().way = SUM;
+    if net.config().way > NUMBER && other.is_well_formed() {
+        seen.note(WAY_ALONE, number);
+    }
+    let mut other = net.clone();
+    let below = usize::from(net.k()).min(PLACES);
+    for station in &mut other.stations_mut()[..below] {
+        let classes = net.config().classes.min(MOST_CLASSES);
+        for sum in &mut station.held.sums[in_use(classes)] {
+            *sum = if *sum == NONE { 0 } else { *sum };
+        }
+    }
+    match (net.is_well_formed(), other.is_well_formed()) {
+        _ if other == *net => {}
+        (true, _) => seen.note(NONE_IN_FORM, net.config().way),
+        (false, true) => seen.note(NONE_ALONE, net.config().way),
+        _ => {}
+    }
 }
 
 /// Whole nets agree; the first place that does not is shown.
@@ -47,7 +72,7 @@ fn assert_same<N: Net>(given: &N, due: &N, after: &impl std::fmt::Debug) {
             assert_eq!(given, due, "words from {sender} to {receiver} after {after:?}");
         }
     }
-    assert_eq!(given.config(), due.config(), "k, c and desk after {after:?}");
+    assert_eq!(given.config(), due.config(), "k, c, desk and way after {after:?}");
     assert!(given == due, "the net after {after:?}");
 }
 
@@ -75,20 +100,21 @@ fn note_excess<N: Net>(reply: &Reply, net: &N, seen: &mut Coverage) {
     };
     let stations = if was_in_form { &net.stations()[..net.k().into()] } else { &[] };
     for station in stations {
-        seen.note_excess(&station.held, net.config().classes, reply.number());
+        seen.note_excess(&station.held, net.config(), reply.number());
     }
 }
 
-/// The fresh net of a map handed over, laid over anything.
-fn fresh<N: Sample>(subject: &impl NetCalls<N>, rng: &mut Rng, map: &Map, seen: &mut Coverage) -> N {
+/// The fresh net of a map handed over, to join counts a way handed over, laid over anything.
+fn fresh<N: Sample>(subject: &impl NetCalls<N>, rng: &mut Rng, map: &Map, way: u8, seen: &mut Coverage) -> N {
     let mut given: N = junk(rng);
     let mut due = given.clone();
-    let expected = Model.fresh(map, &mut due);
-    assert_eq!(subject.fresh(map, &mut given), expected, "the fresh net of {map:?}");
+    let expected = Model.fresh(map, way, &mut due);
+    assert_eq!(subject.fresh(map, way, &mut given), expected, "the fresh net of {map:?}, way {way}");
     assert_same(&given, &due, map);
     seen.note("fresh", number(&expected));
     if expected.is_ok() {
         seen.note("classes opened", map.classes);
+        seen.note("ways opened", way);
         seen.note("unstorable lots opened", (map.lot >= LOT_LIMIT).into());
     }
     given
@@ -98,10 +124,11 @@ fn fresh<N: Sample>(subject: &impl NetCalls<N>, rng: &mut Rng, map: &Map, seen: 
 pub fn freshness<N: Sample>(subject: &impl NetCalls<N>, count: u64) {
     let mut seen = Coverage::default();
     for_cases(count, |rng| {
-        let map = handed_over(rng);
-        fresh(subject, rng, &map, &mut seen);
+        let (map, way) = (handed_over(rng), way_handed_over(rng));
+        fresh(subject, rng, &map, way, &mut seen);
     });
-    seen.require("fresh", [0, 2, 3, 7, 8, 9, 10, 19]);
+    seen.require("fresh", [0, 2, 3, 7, 8, 9, 10, 12, 19]);
+    seen.require("ways opened", WAYS);
     seen.require("classes opened", 1..=MOST_CLASSES);
     seen.require("unstorable lots opened", 0..=1);
 }
@@ -125,6 +152,9 @@ pub fn hostile<N: Sample>(subject: &impl NetCalls<N>, count: u64) {
     seen.require_excesses(&[0, 11]);
     seen.require_each_class();
     seen.require(DESK_ALONE, [11]);
+    seen.require(WAY_ALONE, [11]);
+    seen.require(NONE_ALONE, [SUM, NUMBER]);
+    seen.require(NONE_IN_FORM, [GREATEST, LEAST]);
     require_kinds::<N>(&seen);
 }
 
@@ -138,12 +168,13 @@ fn require_kinds<N: Net>(seen: &Coverage) {
 pub fn lists<N: Sample>(subject: &impl NetCalls<N>, count: u64) {
     let mut seen = Coverage::default();
     for_cases(count, |rng| {
-        let map = accepted(rng);
-        let net: N = fresh(subject, rng, &map, &mut seen);
+        let (map, way) = (accepted(rng), way(rng));
+        let net: N = fresh(subject, rng, &map, way, &mut seen);
         list(subject, rng, &map, net, |net, call| compare(subject, net, call, &mut seen));
     });
     seen.require("step", [0, 12, 13]);
     seen.require("draw", [0, 14]);
+    seen.require("ways opened", WAYS);
     require_kinds::<N>(&seen);
 }
 
@@ -178,28 +209,28 @@ pub fn list<N: Sample>(
 /// One full run on 64 stations all linked, with one class and with eight, and demand 3 on it.
 pub fn full_run<N: Sample>(subject: &impl NetCalls<N>) {
     for_cases(1, |rng| {
-        for classes in [1, MOST_CLASSES] {
+        for (classes, way) in [(1, SUM), (MOST_CLASSES, LEAST)] {
             let map = all_linked_mixed(rng, classes);
-            whole_wave(subject, rng, &map);
+            whole_wave(subject, rng, &map, way);
         }
     });
 }
 
-/// A full run for every class count, on the smallest maps and on 64 stations, and demand 3 on it.
+/// A full run for every class count and way, on the smallest maps and on 64 stations, and demand 3 on it.
 pub fn every_class_count<N: Sample>(subject: &impl NetCalls<N>) {
     for_cases(1, |rng| {
         for classes in 1..=MOST_CLASSES {
             for k in [1, 2, MOST_STATIONS] {
                 let map = accepted_of(rng, k, classes);
-                whole_wave(subject, rng, &map);
+                WAYS.into_iter().for_each(|way| whole_wave(subject, rng, &map, way));
             }
         }
     });
 }
 
-fn whole_wave<N: Sample>(subject: &impl NetCalls<N>, rng: &mut Rng, map: &Map) {
+fn whole_wave<N: Sample>(subject: &impl NetCalls<N>, rng: &mut Rng, map: &Map, way: u8) {
     let mut seen = Coverage::default();
-    let mut net: N = fresh(subject, rng, map, &mut seen);
+    let mut net: N = fresh(subject, rng, map, way, &mut seen);
     let before = net.clone();
     let call = Call::Run(call::draws(rng, Record::full::<N>(map) + 1));
     let reply = compare(subject, &mut net, &call, &mut seen);
@@ -208,18 +239,19 @@ fn whole_wave<N: Sample>(subject: &impl NetCalls<N>, rng: &mut Rng, map: &Map) {
     record.close(subject, &net);
 }
 
-/// Both kinds of net report the same for the same map, in any order of steps.
+/// Both kinds of net report the same for the same map and way, in any order of steps.
 pub fn kinds_agree<A: Sample, B: Sample>(left: &impl NetCalls<A>, right: &impl NetCalls<B>, count: u64) {
     for_cases(count, |rng| {
-        let map = accepted(rng);
-        assert_eq!(reported(left, rng, &map), reported(right, rng, &map), "what is reported for {map:?}");
+        let (map, way) = (accepted(rng), way(rng));
+        let (left, right) = (reported(left, rng, &map, way), reported(right, rng, &map, way));
+        assert_eq!(left, right, "what is reported for {map:?}, way {way}");
     });
 }
 
 /// What a whole wave in a random order reports.
-fn reported<N: Sample>(subject: &impl NetCalls<N>, rng: &mut Rng, map: &Map) -> Aggregate {
+fn reported<N: Sample>(subject: &impl NetCalls<N>, rng: &mut Rng, map: &Map, way: u8) -> Aggregate {
     let mut net: N = junk(rng);
-    subject.fresh(map, &mut net).expect("the map is accepted");
+    subject.fresh(map, way, &mut net).expect("the map is accepted");
     let draws = call::draws(rng, Record::full::<N>(map));
     assert!(subject.run(&mut net, &draws).at_rest, "a whole wave comes to rest");
     net.stations()[usize::from(map.desk)].held

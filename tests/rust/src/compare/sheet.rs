@@ -3,6 +3,7 @@
 use super::Coverage;
 use crate::calls::{Model, SheetCalls};
 use crate::gen::sheet::{lot, reported};
+use crate::model::aggregate::SUM;
 use crate::model::map::{accept, Map, LOT_LIMIT};
 use crate::model::meet::{Meet, CARRYING, WITHOUT};
 use crate::model::net::{Config, Net};
@@ -24,7 +25,7 @@ fn amiss(map: &Map, net: &Meet, room: usize) -> [bool; 6] {
         accept(map).is_err(),
         map.lot >= LOT_LIMIT,
         !formed,
-        net.config != Config::of(map),
+        net.config != Config::of(map, SUM),
         formed && !is_reported(net),
         room < length(map),
     ]

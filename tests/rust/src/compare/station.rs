@@ -1,9 +1,10 @@
 //! All five events: result, values, whole record, and what is given.
 
-use super::{Coverage, DESK_ALONE};
+use super::{Coverage, DESK_ALONE, NONE_ALONE, NONE_IN_FORM, WAY_ALONE};
 use crate::calls::{Model, StationCalls};
 use crate::gen::station::{event, events, extreme_events, extremes, process};
-use crate::model::aggregate::Aggregate;
+use crate::model::aggregate::{is_class_count, Aggregate, GREATEST, LEAST, NONE, NUMBER, SUM};
+use crate::model::net::Config;
 use crate::model::refusal::number;
 use crate::model::station::{Event, Process};
 use crate::model::MOST_STATIONS;
@@ -26,7 +27,16 @@ fn compare(subject: &impl StationCalls, process: Process, event: Event, seen: &m
         Event::TakeAnswer(gathered) if number == 12 => gathered,
         _ => process.station.held,
     };
-    seen.note_excess(&looked_at, process.classes, number);
+    let Process { classes, desk, way, .. } = process;
+    if way > NUMBER && (Process { way: SUM, ..process }).is_well_formed() {
+        seen.note(WAY_ALONE, number);
+    }
+    if let (Event::TakeAnswer(gathered), true, 0 | 12) = (event, is_class_count(classes), number) {
+        if gathered.cells(classes).any(|cell| cell.sum == NONE) {
+            seen.note(if number == 0 { NONE_IN_FORM } else { NONE_ALONE }, way);
+        }
+    }
+    seen.note_excess(&looked_at, Config { k: MOST_STATIONS, classes, desk, way }, number);
     left
 }
 
@@ -50,6 +60,9 @@ fn require_all(seen: &Coverage) {
     }
     seen.require_excesses(&[0, 11, 12]);
     seen.require(DESK_ALONE, [11]);
+    seen.require(WAY_ALONE, [11]);
+    seen.require(NONE_ALONE, [SUM, NUMBER]);
+    seen.require(NONE_IN_FORM, [GREATEST, LEAST]);
 }
 
 /// Every field of the record, and every argument, at its extremes.

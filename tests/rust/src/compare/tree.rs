@@ -1,10 +1,11 @@
 //! The tree behind a total: complete waves, step by step, and what went by against what the parents alone say in the end.
 
 use crate::calls::NetCalls;
+use crate::gen::aggregate::way;
 use crate::gen::call;
 use crate::gen::map::{accepted, all_linked_mixed};
 use crate::gen::net::{junk, Sample};
-use crate::model::aggregate::{Aggregate, Cell};
+use crate::model::aggregate::{Aggregate, Cell, SUM};
 use crate::model::demand::Record;
 use crate::model::map::{stored, Map};
 use crate::model::net::{Net, Step};
@@ -37,7 +38,8 @@ pub fn largest<N: Sample>(subject: &impl NetCalls<N>) {
 /// One wave, and the tells after it where totals are carried back; whether a neighbour of the desk hangs on another station.
 fn wave<N: Sample>(subject: &impl NetCalls<N>, rng: &mut Rng, map: &Map) -> bool {
     let mut net: N = junk(rng);
-    subject.fresh(map, &mut net).expect("the map is accepted");
+    let way = way(rng);
+    subject.fresh(map, way, &mut net).expect("the map is accepted");
     let mut sent = Vec::new();
     for draw in call::draws(rng, Record::full::<N>(map)) {
         let before = net.clone();
@@ -46,10 +48,10 @@ fn wave<N: Sample>(subject: &impl NetCalls<N>, rng: &mut Rng, map: &Map) -> bool
         assert_parents_stay(&before, &net);
     }
     let tree = Tree::of(map, &net);
-    check(map, &tree, &sent);
+    check(map, way, &tree, &sent);
     for station in 0..map.k {
         let held = net.stations()[usize::from(station)].held;
-        assert_eq!(held.given(map.classes), tree.total(station), "station {station} holds the total of its tree");
+        assert_eq!(held.given(map.classes), tree.total(station, way), "station {station} holds the total of its tree");
     }
     let mut near = set::members(map.neighbours[usize::from(map.desk)]);
     near.any(|station| tree.parent(station) != map.desk)
@@ -61,7 +63,7 @@ fn went_by<N: Net>(before: &N, step: Step, after: &N) -> Option<Aggregate> {
     let mut due = before.stations()[receiver].held;
     let brought = before.brought(step);
     if let Some(brought) = &brought {
-        due.join(brought, before.config().classes);
+        due.join(brought, before.config());
     }
     assert_eq!(after.stations()[receiver].held, due, "a receiver gains what the answer brings: {step:?}");
     brought
@@ -75,18 +77,18 @@ fn assert_parents_stay<N: Net>(before: &N, after: &N) {
 }
 
 /// The claims of request 6, of the parents after the report and of what went up before.
-fn check(map: &Map, tree: &Tree, sent: &[Sent]) {
+fn check(map: &Map, way: u8, tree: &Tree, sent: &[Sent]) {
     assert!(tree.has_neighbours_as_parents(), "each station but the desk has a neighbour as parent");
     for station in 0..map.k {
         assert!(tree.way(station).is_some(), "parents lead from {station} to the desk in at most k − 1 hops");
     }
-    assert_eq!(tree.total(map.desk), map.total(), "the desk's is the total of all");
+    assert_eq!(tree.total(map.desk, way), map.total(way), "the desk's is the total of all");
     let senders: BTreeSet<u8> = sent.iter().map(|&(sender, _, _)| sender).collect();
     let others = (0..map.k).filter(|&station| station != map.desk).collect();
     assert_eq!((senders, sent.len()), (others, usize::from(map.k) - 1), "each station but the desk answers, once");
     for (sender, receiver, brought) in sent {
         assert_eq!(*receiver, tree.parent(*sender), "an answer of {sender} goes to its parent");
-        assert_eq!(*brought, tree.total(*sender), "an answer of {sender} brings the total of its tree");
+        assert_eq!(*brought, tree.total(*sender, way), "an answer of {sender} brings the total of its tree");
     }
 }
 
@@ -105,11 +107,11 @@ pub fn lines(output: impl Fn(&[u8]) -> Vec<u8>, count: u64) {
             match kind {
                 "wake" => parents[numbers[1] as usize] = numbers[0] as u8,
                 "answer" => sent.push((numbers[0] as u8, numbers[1] as u8, shown(&numbers[2..]))),
-                "report" => assert_eq!(shown(&numbers[1..]), map.total(), "{line}"),
+                "report" => assert_eq!(shown(&numbers[1..]), map.total(SUM), "{line}"),
                 _ => {}
             }
         }
-        check(&map, &Tree::from_parents(&map, parents), &sent);
+        check(&map, SUM, &Tree::from_parents(&map, parents), &sent);
     });
 }
 

@@ -28,7 +28,7 @@ pub struct Net {
 }
 
 extern "C" {
-    fn tally_mailbox_fresh(line: *mut Line, words: *mut Words, map: Map) -> Packed;
+    fn tally_mailbox_fresh(line: *mut Line, words: *mut Words, map: Map, way: u8) -> Packed;
     fn tally_mailbox_step(line: *mut Line, words: *mut Words, kind: u8, sender: u8, receiver: u8) -> Packed;
     fn tally_mailbox_draw(line: *mut Line, words: *mut Words, draw: u16) -> Packed;
     fn tally_mailbox_run(line: *mut Line, words: *mut Words, draws: *const u16, length: usize) -> RunAnswer;
@@ -70,8 +70,8 @@ impl LaidOut for Mail {
 }
 
 impl Exports for Net {
-    fn fresh(&mut self, map: Map) -> Packed {
-        unsafe { tally_mailbox_fresh(&mut self.line, &mut self.words, map) }
+    fn fresh(&mut self, map: Map, way: u8) -> Packed {
+        unsafe { tally_mailbox_fresh(&mut self.line, &mut self.words, map, way) }
     }
 
     fn step(&mut self, Step { kind, sender, receiver }: Step) -> Packed {

@@ -30,15 +30,15 @@ pub struct Net {
 pub struct BackNet(Net);
 
 extern "C" {
-    fn tally_rendezvous_fresh(net: *mut Line, kept: *mut Kept, map: Map, carrying: u8) -> Packed;
+    fn tally_rendezvous_fresh(net: *mut Line, kept: *mut Kept, map: Map, way: u8, carrying: u8) -> Packed;
     fn tally_rendezvous_step(net: *mut Line, kept: *mut Kept, kind: u8, sender: u8, receiver: u8) -> Packed;
     fn tally_rendezvous_draw(net: *mut Line, kept: *mut Kept, draw: u16) -> Packed;
     fn tally_rendezvous_run(net: *mut Line, kept: *mut Kept, draws: *const u16, length: usize) -> RunAnswer;
 }
 
 impl Net {
-    fn open(&mut self, map: Map, carrying: u8) -> Packed {
-        unsafe { tally_rendezvous_fresh(&mut self.line, &mut self.kept, map, carrying) }
+    fn open(&mut self, map: Map, way: u8, carrying: u8) -> Packed {
+        unsafe { tally_rendezvous_fresh(&mut self.line, &mut self.kept, map, way, carrying) }
     }
 }
 
@@ -70,8 +70,8 @@ impl LaidOut for Back {
 }
 
 impl Exports for Net {
-    fn fresh(&mut self, map: Map) -> Packed {
-        self.open(map, WITHOUT)
+    fn fresh(&mut self, map: Map, way: u8) -> Packed {
+        self.open(map, way, WITHOUT)
     }
 
     fn step(&mut self, Step { kind, sender, receiver }: Step) -> Packed {
@@ -88,8 +88,8 @@ impl Exports for Net {
 }
 
 impl Exports for BackNet {
-    fn fresh(&mut self, map: Map) -> Packed {
-        self.0.open(map, CARRYING)
+    fn fresh(&mut self, map: Map, way: u8) -> Packed {
+        self.0.open(map, way, CARRYING)
     }
 
     fn step(&mut self, step: Step) -> Packed {

@@ -19,9 +19,10 @@ struct Config {
     k: u8,
     classes: u8,
     desk: u8,
+    way: u8,
     /// Where stations meet, whether totals are carried back; else beside.
     flag: u8,
-    beside: [u8; 4],
+    beside: [u8; 3],
 }
 
 /// A station in its place.
@@ -58,17 +59,17 @@ pub struct Line {
 }
 
 impl Line {
-    pub fn of(rules::Config { k, classes, desk }: rules::Config, stations: &[model::Station; PLACES]) -> Line {
-        Line::flagged(rules::Config { k, classes, desk }, BESIDE, stations)
+    pub fn of(config: rules::Config, stations: &[model::Station; PLACES]) -> Line {
+        Line::flagged(config, BESIDE, stations)
     }
 
     pub fn flagged(
-        rules::Config { k, classes, desk }: rules::Config,
+        rules::Config { k, classes, desk, way }: rules::Config,
         flag: u8,
         stations: &[model::Station; PLACES],
     ) -> Line {
         Line {
-            config: Config { k, classes, desk, flag, beside: [BESIDE; 4] },
+            config: Config { k, classes, desk, way, flag, beside: [BESIDE; 3] },
             stations: stations.each_ref().map(Place::of),
         }
     }
@@ -79,13 +80,13 @@ impl Line {
 
     /// Where there is no flag.
     pub fn assert_no_flag(&self) {
-        assert_eq!(self.config.flag, BESIDE, "what stands beside k, c and the desk was written");
+        assert_eq!(self.config.flag, BESIDE, "what stands beside k, c, the desk and the way was written");
     }
 
     pub fn config(&self) -> rules::Config {
-        let Config { k, classes, desk, beside, .. } = self.config;
-        assert_eq!(beside, [BESIDE; 4], "what stands beside k, c and the desk was written");
-        rules::Config { k, classes, desk }
+        let Config { k, classes, desk, way, beside, .. } = self.config;
+        assert_eq!(beside, [BESIDE; 3], "what stands beside k, c, the desk and the way was written");
+        rules::Config { k, classes, desk, way }
     }
 
     pub fn stations(&self) -> [model::Station; PLACES] {
@@ -102,7 +103,7 @@ pub struct RunAnswer {
 
 /// The exported functions of one kind of net, over its layout.
 pub trait Exports {
-    fn fresh(&mut self, map: map::Map) -> Packed;
+    fn fresh(&mut self, map: map::Map, way: u8) -> Packed;
 
     /// A step and a draw come with the step made.
     fn step(&mut self, step: Step) -> Packed;
@@ -126,8 +127,8 @@ impl<N: LaidOut> NetCalls<N> for Library
 where
     N::Layout: Exports,
 {
-    fn fresh(&self, map: &Map, net: &mut N) -> Result<(), Refusal> {
-        lend_mut(net, |net| net.fresh(map.lay_out())).done()
+    fn fresh(&self, map: &Map, way: u8, net: &mut N) -> Result<(), Refusal> {
+        lend_mut(net, |net| net.fresh(map.lay_out(), way)).done()
     }
 
     fn step(&self, net: &mut N, step: Step) -> Result<Step, Refusal> {

@@ -37,6 +37,7 @@ pub struct Process {
     own: u8,
     classes: u8,
     desk: u8,
+    way: u8,
     station: Station,
 }
 
@@ -80,12 +81,13 @@ impl LaidOut for model::Process {
     type Layout = Process;
 
     fn lay_out(&self) -> Process {
-        Process { own: self.own, classes: self.classes, desk: self.desk, station: self.station.lay_out() }
+        let model::Process { own, classes, desk, way, station } = self;
+        Process { own: *own, classes: *classes, desk: *desk, way: *way, station: station.lay_out() }
     }
 
     fn take_back(layout: &Process) -> model::Process {
-        let Process { own, classes, desk, station } = layout;
-        model::Process { own: *own, classes: *classes, desk: *desk, station: LaidOut::take_back(station) }
+        let Process { own, classes, desk, way, station } = layout;
+        model::Process { own: *own, classes: *classes, desk: *desk, way: *way, station: LaidOut::take_back(station) }
     }
 }
 

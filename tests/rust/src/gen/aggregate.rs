@@ -1,12 +1,13 @@
-//! Sums and missing numbers of the classes: in form, on both sides of each bound, and such that an answer takes one class
-//! over one bound alone. Past c stands anything.
+//! Ways of joining, and sums and missing numbers of the classes: in form, on both sides of each bound, none where a way has
+//! it and where it has not, and such that an answer takes one class over one bound alone. Past c stands anything.
 
-use crate::model::aggregate::{in_use, Aggregate, Cell, MOST_MISSING, SUM_LIMIT};
+use crate::model::aggregate::{in_use, Aggregate, Cell, GREATEST, LEAST, MOST_MISSING, NONE, NUMBER, SUM, SUM_LIMIT};
+use crate::model::net::Config;
 use crate::model::{CLASSES, MOST_CLASSES};
 use crate::rng::Rng;
 
-/// On both sides of the bound, those in form first.
-pub const SUMS: [u64; 7] = [0, 1, SUM_LIMIT - 1, SUM_LIMIT, SUM_LIMIT + 1, 1 << 63, u64::MAX];
+/// On both sides of the bound, those in form first, and none last.
+pub const SUMS: [u64; 8] = [0, 1, SUM_LIMIT - 1, SUM_LIMIT, SUM_LIMIT + 1, 1 << 63, NONE - 1, NONE];
 pub const MISSING: [u8; 5] = [0, 63, 64, 65, 255];
 
 const SUMS_IN_FORM: &[u64] = SUMS.split_at(3).0;
@@ -19,6 +20,31 @@ const MISSING_NEAR: [u8; 8] = [1, 2, 31, 32, 33, 62, 63, 64];
 
 /// Numbers that are no class count.
 pub const NO_CLASS_COUNTS: [u8; 4] = [0, 9, 128, 255];
+
+pub const WAYS: [u8; 4] = [SUM, GREATEST, LEAST, NUMBER];
+
+/// Numbers that are no way.
+pub const NO_WAYS: [u8; 4] = [NUMBER + 1, 5, 128, 255];
+
+/// A way handed over to an opening: now and then none that there is.
+pub fn way_handed_over(rng: &mut Rng) -> u8 {
+    if rng.chance(15) {
+        rng.pick(&NO_WAYS)
+    } else {
+        way(rng)
+    }
+}
+
+/// A way: the sum, whose bound an answer may take a station over, often.
+pub fn way(rng: &mut Rng) -> u8 {
+    let any = rng.pick(&WAYS);
+    rng.pick(&[SUM, any, any])
+}
+
+/// The ways under which none is in form.
+pub fn has_none(way: u8) -> bool {
+    way == GREATEST || way == LEAST
+}
 
 /// A class count: 1 and 8 often.
 pub fn class_count(rng: &mut Rng) -> u8 {
@@ -36,11 +62,13 @@ pub fn class(rng: &mut Rng, classes: u8) -> usize {
 }
 
 /// One class may hold any cell in form, the others mostly little, so that a run goes on.
-pub fn in_form(rng: &mut Rng, classes: u8) -> Aggregate {
+pub fn in_form(rng: &mut Rng, Config { classes, way, .. }: Config) -> Aggregate {
     let loud = class(rng, classes);
     with_stray(rng, classes, |rng, class| {
         if class == loud || rng.chance(5) {
-            Cell { sum: sum_in_form(rng), missing: missing_in_form(rng) }
+            Cell { sum: sum_in_form(rng, way), missing: missing_in_form(rng) }
+        } else if has_none(way) && rng.chance(20) {
+            Cell { sum: NONE, missing: rng.station(3) }
         } else {
             quiet(rng)
         }
@@ -60,7 +88,10 @@ fn quiet(rng: &mut Rng) -> Cell {
     Cell { sum: rng.below(1 << 32), missing: rng.station(3) }
 }
 
-fn sum_in_form(rng: &mut Rng) -> u64 {
+fn sum_in_form(rng: &mut Rng, way: u8) -> u64 {
+    if has_none(way) && rng.chance(30) {
+        return NONE;
+    }
     match rng.below(3) {
         0 => rng.pick(SUMS_IN_FORM),
         1 => rng.below(1 << 32),
@@ -78,8 +109,9 @@ fn missing_in_form(rng: &mut Rng) -> u8 {
 }
 
 /// Takes one class out of form, by the sum, by the missing number, or by both.
-pub fn spoil(rng: &mut Rng, held: &mut Aggregate, class: usize) {
-    let (sum, missing) = (rng.pick(SUMS_BEYOND), rng.pick(MISSING_BEYOND));
+pub fn spoil(rng: &mut Rng, held: &mut Aggregate, class: usize, way: u8) {
+    let beyond = &SUMS_BEYOND[..SUMS_BEYOND.len() - usize::from(has_none(way))];
+    let (sum, missing) = (rng.pick(beyond), rng.pick(MISSING_BEYOND));
     let cell = held.cell(class);
     held.put(class, rng.pick(&[Cell { sum, ..cell }, Cell { missing, ..cell }, Cell { sum, missing }]));
 }

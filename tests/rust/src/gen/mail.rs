@@ -35,19 +35,19 @@ fn answer(outbox: &Outbox, receiver: u8) -> Option<Aggregate> {
 }
 
 /// Makes the answers fit that wait for other stations below k; the stray words stay.
-pub fn bring_into_form(rng: &mut Rng, outbox: &mut Outbox, sender: u8, Config { k, classes, .. }: Config) {
-    for receiver in (0..k).filter(|&receiver| receiver != sender) {
-        if answer(outbox, receiver).is_some_and(|gathered| !gathered.is_bounded(classes)) {
-            outbox.put(receiver, &aggregate::in_form(rng, classes));
+pub fn bring_into_form(rng: &mut Rng, outbox: &mut Outbox, sender: u8, config: Config) {
+    for receiver in (0..config.k).filter(|&receiver| receiver != sender) {
+        if answer(outbox, receiver).is_some_and(|gathered| !gathered.is_bounded(config)) {
+            outbox.put(receiver, &aggregate::in_form(rng, config));
         }
     }
 }
 
 /// Posts an answer that is out of form in one class.
-pub fn spoil(rng: &mut Rng, outbox: &mut Outbox, receiver: u8, classes: u8) {
-    let mut gathered = aggregate::in_form(rng, classes);
-    let class = aggregate::class(rng, classes);
-    aggregate::spoil(rng, &mut gathered, class);
+pub fn spoil(rng: &mut Rng, outbox: &mut Outbox, receiver: u8, config: Config) {
+    let mut gathered = aggregate::in_form(rng, config);
+    let class = aggregate::class(rng, config.classes);
+    aggregate::spoil(rng, &mut gathered, class, config.way);
     outbox.post(receiver, Message::Answer(gathered));
 }
 

@@ -1,11 +1,11 @@
 //! Nets of both kinds: reachable, in form but not reachable, with sums or missing numbers near their bounds, with anything
 //! where nothing may look, and out of form in one field.
 
-use super::aggregate::{self, BOUNDS, NO_CLASS_COUNTS};
+use super::aggregate::{self, has_none, BOUNDS, NO_CLASS_COUNTS, NO_WAYS};
 use super::mail::{self, SPARSITIES};
 use super::map::NO_STATION_COUNTS;
 use super::{call, map, station};
-use crate::model::aggregate::{Aggregate, MOST_MISSING, SUM_LIMIT};
+use crate::model::aggregate::{Aggregate, MOST_MISSING, NONE, SUM_LIMIT};
 use crate::model::demand::Record;
 use crate::model::mail::Mail;
 use crate::model::meet::{Back, Meet, CARRYING, TOLD, WITHOUT};
@@ -118,13 +118,13 @@ impl Sample for Mail {
     }
 
     fn spoil_message(&mut self, rng: &mut Rng) -> bool {
-        let Config { k, classes, .. } = self.config;
+        let Config { k, .. } = self.config;
         if k < 2 {
             return false;
         }
         let sender = rng.station(k);
         let receiver = (sender + 1 + rng.station(k - 1)) % k;
-        mail::spoil(rng, &mut self.outboxes[usize::from(sender)], receiver, classes);
+        mail::spoil(rng, &mut self.outboxes[usize::from(sender)], receiver, self.config);
         true
     }
 }
@@ -159,14 +159,14 @@ pub fn junk<N: Sample>(rng: &mut Rng) -> N {
     let mut net: N = in_form(rng);
     net.config_mut().k = 0;
     net.litter(rng);
-    *net.config_mut() = Config { k: rng.byte(), classes: rng.byte(), desk: rng.byte() };
+    *net.config_mut() = Config { k: rng.byte(), classes: rng.byte(), desk: rng.byte(), way: rng.byte() };
     net
 }
 
 /// A net on the way from fresh to rest.
 fn reachable<N: Sample>(rng: &mut Rng) -> N {
     let map = map::accepted(rng);
-    let mut net = N::set_up(&map);
+    let mut net = N::set_up(&map, aggregate::way(rng));
     let steps = rng.index(Record::full::<N>(&map) + 1).min(LONGEST_WAY);
     let draws = call::draws(rng, steps);
     net.run(&draws);
@@ -175,7 +175,8 @@ fn reachable<N: Sample>(rng: &mut Rng) -> N {
 
 fn in_form<N: Sample>(rng: &mut Rng) -> N {
     let k = map::station_count(rng);
-    let config = Config { k, classes: aggregate::class_count(rng), desk: map::desk(rng, k) };
+    let (classes, desk, way) = (aggregate::class_count(rng), map::desk(rng, k), aggregate::way(rng));
+    let config = Config { k, classes, desk, way };
     in_form_of(rng, config)
 }
 
@@ -211,15 +212,20 @@ fn near_bound<N: Sample>(rng: &mut Rng, net: &mut N) {
     }
 }
 
-/// Takes one thing out of form: a field of a station, a message, k, c or the desk.
+/// Takes one thing out of form: a field of a station, often by a none, a message, k, c, the desk or the way.
 pub fn spoil<N: Sample>(rng: &mut Rng, net: &mut N) {
-    let (config, choice) = (net.config(), rng.below(13));
+    let (config, choice) = (net.config(), rng.below(16));
     if choice == 0 {
         net.config_mut().k = rng.pick(&NO_STATION_COUNTS);
     } else if choice == 1 {
         net.config_mut().desk = map::no_desk(rng, config.k);
     } else if choice < 4 {
         net.config_mut().classes = rng.pick(&NO_CLASS_COUNTS);
+    } else if choice == 13 {
+        net.config_mut().way = rng.pick(&NO_WAYS);
+    } else if choice > 13 && !has_none(config.way) {
+        let class = aggregate::class(rng, config.classes);
+        station_of(rng, net).1.held.sums[class] = NONE;
     } else if choice > 7 || !net.spoil_message(rng) {
         let (own, station) = station_of(rng, net);
         station::spoil(rng, station, own, config);

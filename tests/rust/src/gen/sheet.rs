@@ -1,7 +1,9 @@
 //! A map and a net for its sheet: reported lots, lots that look so, and ones with things amiss, alone and together.
 
+use super::aggregate::WAYS;
 use super::net::Sample;
 use super::{call, map, net};
+use crate::model::aggregate::SUM;
 use crate::model::demand::Record;
 use crate::model::map::Map;
 use crate::model::meet::{Back, Meet, CARRYING, WITHOUT};
@@ -23,7 +25,7 @@ const AMISS: u64 = 15;
 pub fn reported(rng: &mut Rng) -> (Map, Meet) {
     let (k, classes) = (1 + rng.station(6), super::aggregate::class_count(rng));
     let map = map::accepted_of(rng, k, classes);
-    let mut net = Meet::open(&map, rng.pick(&[WITHOUT, CARRYING]));
+    let mut net = Meet::open(&map, SUM, rng.pick(&[WITHOUT, CARRYING]));
     let steps = Record::whole(&map) + rng.index(usize::from(k));
     let draws = call::draws(rng, steps);
     net.run(&draws);
@@ -43,11 +45,12 @@ fn finished(rng: &mut Rng, config: Config) -> Meet {
     net
 }
 
-/// Another number of stations or of classes, or another desk, in form.
+/// Another number of stations or of classes, another desk, or another way, in form.
 fn other(rng: &mut Rng, config: Config) -> Config {
     let mut other = config;
-    match rng.below(3) {
+    match rng.below(4) {
         0 => other.classes = config.classes % 8 + 1,
+        3 => other.way = rng.pick(&WAYS[1..]),
         1 if config.k > 1 => other.desk = (config.desk + 1) % config.k,
         _ if config.k < 64 => other.k += 1,
         _ => other.classes = config.classes % 8 + 1,
@@ -86,7 +89,7 @@ pub fn lot(rng: &mut Rng) -> (Map, Meet) {
         return reported(rng);
     }
     let mut map = map::accepted(rng);
-    let mut config = Config::of(&map);
+    let mut config = Config::of(&map, SUM);
     if rng.chance(AMISS) {
         config = other(rng, config);
     }

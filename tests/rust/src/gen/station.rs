@@ -1,8 +1,8 @@
 //! Station records: in form, out of form in one field, and every field at its extremes.
 
-use super::aggregate::{self, NO_CLASS_COUNTS};
+use super::aggregate::{self, NO_CLASS_COUNTS, NO_WAYS};
 use super::map::{desk, no_desk};
-use crate::model::aggregate::{in_use, is_class_count, Aggregate, Cell, SUM_LIMIT};
+use crate::model::aggregate::{in_use, is_class_count, Aggregate, Cell, GREATEST, LEAST, NONE, NUMBER, SUM, SUM_LIMIT};
 use crate::model::net::Config;
 use crate::model::station::{Event, Process, Station, FINISHED};
 use crate::model::{set, CLASSES, MOST_STATIONS};
@@ -14,9 +14,23 @@ const NUMBERS: [u8; 7] = [0, 1, 2, 63, 64, 65, 255];
 /// A record's own number and its desk: the desk's own record and others', then numbers and desks that are none.
 const OWN: [(u8, u8); 9] = [(0, 0), (1, 0), (0, 1), (1, 1), (63, 63), (64, 0), (255, 63), (1, 64), (0, 255)];
 
-/// A class count, and the class whose numbers are at their extremes: the only one, the first or the last of several, or
-/// one past c; then numbers that are no class count.
-const CLASS: [(u8, usize); 8] = [(1, 0), (1, 1), (3, 0), (3, 2), (3, 7), (8, 7), (0, 0), (9, 7)];
+/// A class count, the class whose numbers are at their extremes (the only one, the first or the last of several, or one
+/// past c), and a way; then numbers that are no class count, and such as are no way.
+const CLASS: [(u8, usize, u8); 13] = [
+    (1, 0, SUM),
+    (1, 0, GREATEST),
+    (1, 0, LEAST),
+    (1, 0, NUMBER),
+    (1, 1, SUM),
+    (3, 0, GREATEST),
+    (3, 2, SUM),
+    (3, 7, LEAST),
+    (8, 7, NUMBER),
+    (0, 0, SUM),
+    (9, 7, LEAST),
+    (1, 0, 4),
+    (3, 2, 255),
+];
 
 const SETS: [u64; 8] = [0, 1, 2, 4, 1 << 63, u64::MAX >> 1, u64::MAX << 1, u64::MAX];
 const PARENTS: [u8; 5] = [0, 1, 63, 64, 255];
@@ -24,9 +38,10 @@ const WAITS: [u8; 5] = [0, 1, 64, 65, 255];
 const STATES: [u8; 5] = [0, 1, 2, 3, 255];
 
 /// A station in form at place `own` of `k`, seldom one that a wave reaches.
-pub fn in_form(rng: &mut Rng, own: u8, Config { k, classes, desk }: Config) -> Station {
+pub fn in_form(rng: &mut Rng, own: u8, config: Config) -> Station {
+    let Config { k, desk, .. } = config;
     Station {
-        held: aggregate::in_form(rng, classes),
+        held: aggregate::in_form(rng, config),
         unstarted: set_in_form(rng, own, k),
         parent: parent_in_form(rng, own, k, desk),
         waits: waits_in_form(rng),
@@ -78,7 +93,7 @@ pub fn nudge(rng: &mut Rng, station: &mut Station, own: u8, config: Config) {
 }
 
 /// Takes one field out of form; of what is held, one class.
-pub fn spoil(rng: &mut Rng, station: &mut Station, own: u8, Config { k, classes, desk }: Config) {
+pub fn spoil(rng: &mut Rng, station: &mut Station, own: u8, Config { k, classes, desk, way }: Config) {
     match rng.below(8) {
         0 if k < MOST_STATIONS => station.unstarted |= set::singleton(k + rng.station(MOST_STATIONS - k)),
         1 if own != desk => station.parent = own,
@@ -87,7 +102,7 @@ pub fn spoil(rng: &mut Rng, station: &mut Station, own: u8, Config { k, classes,
         4 => station.waits = rng.pick(&[65, 66, 128, 255]),
         5 | 6 => {
             let class = aggregate::class(rng, classes);
-            aggregate::spoil(rng, &mut station.held, class);
+            aggregate::spoil(rng, &mut station.held, class, way);
         }
         _ => station.state = FINISHED + 1 + rng.station(253),
     }
@@ -104,19 +119,24 @@ pub fn any(rng: &mut Rng) -> Station {
     }
 }
 
-/// A record for one station: mostly in form, else spoiled in one field, its own number, its class count and its
-/// desk among them.
+/// A record for one station: mostly in form, else spoiled in one field, its own number, its class count, its desk and its
+/// way among them.
 pub fn process(rng: &mut Rng) -> Process {
     let desk = desk(rng, MOST_STATIONS);
     let own = if rng.chance(30) { desk } else { rng.station(MOST_STATIONS) };
-    let config = Config { k: MOST_STATIONS, classes: aggregate::class_count(rng), desk };
-    let mut process = Process { own, classes: config.classes, desk, station: in_form(rng, own, config) };
+    let config = Config { k: MOST_STATIONS, classes: aggregate::class_count(rng), desk, way: aggregate::way(rng) };
+    let Config { classes, way, .. } = config;
+    let mut process = Process { own, classes, desk, way, station: in_form(rng, own, config) };
     match rng.below(20) {
         0..=3 => spoil(rng, &mut process.station, own, config),
         4 => process.own = rng.pick(&[64, 65, 255]),
         5 => process.classes = rng.pick(&NO_CLASS_COUNTS),
         6 => process.desk = no_desk(rng, MOST_STATIONS),
-        7 => process = Process { own: rng.byte(), classes: rng.byte(), desk: rng.byte(), station: any(rng) },
+        7 => process.way = rng.pick(&NO_WAYS),
+        8 => {
+            let (own, classes, desk, way) = (rng.byte(), rng.byte(), rng.byte(), rng.byte());
+            process = Process { own, classes, desk, way, station: any(rng) };
+        }
         _ => {}
     }
     process
@@ -131,20 +151,20 @@ pub fn event(rng: &mut Rng, process: &Process) -> Event {
         2..=6 if !members.is_empty() => rng.pick(&members),
         _ => rng.station(MOST_STATIONS),
     };
-    let gathered = handed_over(rng, process.classes);
+    let gathered = handed_over(rng, process);
     events(other, gathered)[rng.index(5)]
 }
 
 /// What an answer brings: in range, out of it in one class, or anything.
-fn handed_over(rng: &mut Rng, classes: u8) -> Aggregate {
+fn handed_over(rng: &mut Rng, &Process { classes, desk, way, .. }: &Process) -> Aggregate {
     let choice = rng.below(10);
     if choice == 0 || !is_class_count(classes) {
         return aggregate::any(rng);
     }
-    let mut gathered = aggregate::in_form(rng, classes);
+    let mut gathered = aggregate::in_form(rng, Config { k: MOST_STATIONS, classes, desk, way });
     if choice < 4 {
         let class = aggregate::class(rng, classes);
-        aggregate::spoil(rng, &mut gathered, class);
+        aggregate::spoil(rng, &mut gathered, class, way);
     }
     gathered
 }
@@ -163,7 +183,7 @@ pub fn extreme_events() -> Vec<Event> {
 }
 
 /// The numbers of one class, on both sides of their bounds.
-const CELL_SUMS: [u64; 4] = [0, SUM_LIMIT - 1, SUM_LIMIT, u64::MAX];
+const CELL_SUMS: [u64; 4] = [0, SUM_LIMIT - 1, SUM_LIMIT, NONE];
 const CELL_MISSING: [u8; 4] = [0, 64, 65, 255];
 const CELLS: usize = CELL_SUMS.len() * CELL_MISSING.len();
 
@@ -187,7 +207,7 @@ fn surroundings(classes: u8) -> Aggregate {
 pub fn extremes() -> impl Iterator<Item = Process> {
     let count = CLASS.len() * CELLS * SETS.len() * PARENTS.len() * WAITS.len() * STATES.len() * OWN.len();
     (0..count).map(|mut number| {
-        let (classes, class) = digit(&mut number, &CLASS);
+        let (classes, class, way) = digit(&mut number, &CLASS);
         let station = Station {
             held: with_cell(surroundings(classes), class, cell(&mut number)),
             unstarted: digit(&mut number, &SETS),
@@ -196,7 +216,7 @@ pub fn extremes() -> impl Iterator<Item = Process> {
             state: digit(&mut number, &STATES),
         };
         let (own, desk) = digit(&mut number, &OWN);
-        Process { own, classes, desk, station }
+        Process { own, classes, desk, way, station }
     })
 }
 

@@ -61,8 +61,8 @@ impl<'a> Record<'a> {
         if !self.has_reported() {
             assert_eq!(
                 net.outstanding(),
-                self.map.total(),
-                "before the report what is held adds up to the map's total, class by class"
+                self.map.total(net.config().way),
+                "before the report what is held joins to the map's total, class by class"
             );
         }
     }
@@ -100,7 +100,8 @@ impl<'a> Record<'a> {
             let desk = self.map.desk;
             let report = Step { kind: self.report, sender: desk, receiver: desk };
             assert_eq!(counted.last(), Some(&report), "every order ends in that desk's report");
-            assert_eq!(net.stations()[usize::from(desk)].held, self.map.total(), "each class reports its own total");
+            let total = self.map.total(net.config().way);
+            assert_eq!(net.stations()[usize::from(desk)].held, total, "each class reports its own total");
             assert_eq!(messages + 1, Record::whole(self.map), "each link carried one message each way");
         }
     }

@@ -115,7 +115,7 @@ impl Mail {
         self.outbox(sender).empty(receiver);
         let station = &mut self.stations[usize::from(receiver)];
         match message {
-            Some(Message::Answer(gathered)) => station.take_answer(&gathered, self.config.classes),
+            Some(Message::Answer(gathered)) => station.take_answer(&gathered, self.config),
             _ if station.state == ASLEEP => {
                 station.wake(sender);
                 let others = set::without(station.unstarted, sender);
@@ -140,9 +140,9 @@ impl Mail {
 impl Net for Mail {
     const REPORT: u8 = REPORT;
 
-    fn set_up(map: &Map) -> Mail {
+    fn set_up(map: &Map, way: u8) -> Mail {
         let outboxes = vec![Outbox::EMPTY; PLACES];
-        let mut net = Mail { config: Config::of(map), stations: fresh_stations(map), outboxes };
+        let mut net = Mail { config: Config::of(map, way), stations: fresh_stations(map, way), outboxes };
         net.outbox(map.desk).post_starts(map.neighbours[usize::from(map.desk)]);
         net
     }
@@ -168,8 +168,7 @@ impl Net for Mail {
     }
 
     fn is_well_formed(&self) -> bool {
-        are_well_formed(self.config, &self.stations)
-            && self.answers().all(|gathered| gathered.is_bounded(self.config.classes))
+        are_well_formed(self.config, &self.stations) && self.answers().all(|gathered| gathered.is_bounded(self.config))
     }
 
     fn is_allowed(&self, step: Step) -> bool {
@@ -203,7 +202,7 @@ impl Net for Mail {
     /// What stations not finished hold, and what is under way.
     fn outstanding(&self) -> Aggregate {
         let mut total = unfinished_total(self.config, &self.stations);
-        self.answers().for_each(|gathered| total.join(&gathered, self.config.classes));
+        self.answers().for_each(|gathered| total.join(&gathered, self.config));
         total
     }
 }

@@ -1,6 +1,6 @@
 //! The line map (document 01, and document 02, requests 2, 4 and 5): its stored form, reading, acceptance and writing.
 
-use super::aggregate::{in_use, is_class_count, Aggregate, Cell, NO_READING};
+use super::aggregate::{in_use, is_class_count, Aggregate, Cell, GREATEST, LEAST, NONE, NO_READING, NUMBER};
 use super::refusal::{Cause, Refusal};
 use super::{set, CLASSES, MOST_CLASSES, MOST_STATIONS, PLACES};
 
@@ -48,16 +48,24 @@ impl Map {
         map
     }
 
-    /// What the desk is to report (document 02, requests 1 and 2): "each class reports its own total".
-    pub fn total(&self) -> Aggregate {
-        Aggregate::of(in_use(self.classes).map(|class| self.total_of(class)))
+    /// What the desk is to report (document 02, requests 1, 2 and 10): "each class reports its own total".
+    pub fn total(&self, way: u8) -> Aggregate {
+        Aggregate::of(in_use(self.classes).map(|class| self.total_of(class, way)))
     }
 
-    /// "The sum over heads with a reading, together with how many had none".
-    fn total_of(&self, class: usize) -> Cell {
+    /// "The sum over heads with a reading, together with how many had none"; "the greatest and the least count on a line",
+    /// `none` where there is none; "number of stations with a reading".
+    fn total_of(&self, class: usize, way: u8) -> Cell {
         let counts = self.counts[..self.k.into()].iter().map(|counts| counts[class]);
         let (missing, readings): (Vec<u32>, Vec<u32>) = counts.partition(|&count| count == NO_READING);
-        Cell { sum: readings.into_iter().map(u64::from).sum(), missing: missing.len() as u8 }
+        let readings = readings.into_iter().map(u64::from);
+        let sum = match way {
+            GREATEST => readings.max().unwrap_or(NONE),
+            LEAST => readings.min().unwrap_or(NONE),
+            NUMBER => readings.count() as u64,
+            _ => readings.sum(),
+        };
+        Cell { sum, missing: missing.len() as u8 }
     }
 
     /// m of an accepted map: each link is named from both its ends.

@@ -32,8 +32,9 @@ pub struct Meet {
 
 impl Meet {
     /// "kept totals are zero in a fresh net".
-    pub fn open(map: &Map, carrying: u8) -> Meet {
-        Meet { config: Config::of(map), stations: fresh_stations(map), carrying, kept: [Aggregate::default(); PLACES] }
+    pub fn open(map: &Map, way: u8, carrying: u8) -> Meet {
+        let kept = [Aggregate::default(); PLACES];
+        Meet { config: Config::of(map, way), stations: fresh_stations(map, way), carrying, kept }
     }
 
     fn station(&self, i: u8) -> &Station {
@@ -66,7 +67,7 @@ impl Meet {
     /// "states to 3, never 3 at the desk; a told station has waits zero, and kept totals obey the bounds".
     fn is_told_well(&self, i: u8) -> bool {
         let is_told = self.station(i).state == TOLD;
-        self.kept[usize::from(i)].is_bounded(self.config.classes)
+        self.kept[usize::from(i)].is_bounded(self.config)
             && !(is_told && (i == self.config.desk || self.station(i).waits != 0))
     }
 
@@ -82,8 +83,8 @@ impl Meet {
 impl Net for Meet {
     const REPORT: u8 = REPORT;
 
-    fn set_up(map: &Map) -> Meet {
-        Meet::open(map, WITHOUT)
+    fn set_up(map: &Map, way: u8) -> Meet {
+        Meet::open(map, way, WITHOUT)
     }
 
     /// "For such nets kinds go to 5".
@@ -152,7 +153,7 @@ impl Net for Meet {
             }
             ANSWER => {
                 let answer = self.stations[sender].finish(classes);
-                self.stations[receiver].take_answer(&answer.gathered, classes);
+                self.stations[receiver].take_answer(&answer.gathered, self.config);
             }
             TELL => {
                 self.kept[receiver] = self.known(step.sender).given(classes);
@@ -181,8 +182,8 @@ impl Net for Back {
     const REPORT: u8 = REPORT;
     const LAST: u8 = TELL;
 
-    fn set_up(map: &Map) -> Back {
-        Back(Meet::open(map, CARRYING))
+    fn set_up(map: &Map, way: u8) -> Back {
+        Back(Meet::open(map, way, CARRYING))
     }
 
     fn kinds(&self) -> u8 {
@@ -198,7 +199,7 @@ impl Net for Back {
     fn check_rest(&self, map: &Map) {
         for i in 0..map.k {
             assert!(self.0.knows(i), "every station knows: {i}");
-            assert_eq!(self.0.known(i), map.total(), "what it knows is the reported total: {i}");
+            assert_eq!(self.0.known(i), map.total(self.0.config.way), "what it knows is the reported total: {i}");
         }
     }
 

@@ -1,6 +1,6 @@
 //! What both kinds of net share: fresh stations, form, the listing of allowed steps, steps, draws and runs.
 
-use super::aggregate::{Aggregate, Cell};
+use super::aggregate::{is_way, Aggregate};
 use super::mail::Outbox;
 use super::map::{self, Map};
 use super::refusal::{admit, Cause, Refusal};
@@ -8,17 +8,18 @@ use super::station::{Station, ACTIVE, ASLEEP, FINISHED};
 use super::{set, MOST_STATIONS, PLACES};
 use std::fmt::Debug;
 
-/// What a net is opened with: the numbers of its stations and of its classes, and its desk.
+/// What a net is opened with: the numbers of its stations and of its classes, its desk, and its way of joining counts.
 #[derive(Clone, Copy, PartialEq, Eq, Debug)]
 pub struct Config {
     pub k: u8,
     pub classes: u8,
     pub desk: u8,
+    pub way: u8,
 }
 
 impl Config {
-    pub fn of(map: &Map) -> Config {
-        Config { k: map.k, classes: map.classes, desk: map.desk }
+    pub fn of(map: &Map, way: u8) -> Config {
+        Config { k: map.k, classes: map.classes, desk: map.desk, way }
     }
 }
 
@@ -44,8 +45,8 @@ pub trait Net: Clone + PartialEq + Debug {
     /// The last kind of step.
     const LAST: u8 = Self::REPORT;
 
-    /// The fresh net of an accepted map.
-    fn set_up(map: &Map) -> Self;
+    /// The fresh net of an accepted map, which joins counts the way.
+    fn set_up(map: &Map, way: u8) -> Self;
 
     /// The kinds of step go to this.
     fn kinds(&self) -> u8 {
@@ -89,13 +90,16 @@ pub trait Net: Clone + PartialEq + Debug {
     /// What a step allowed here brings its receiver, where it carries an answer.
     fn brought(&self, step: Step) -> Option<Aggregate>;
 
-    /// What is not yet handed on: it adds up to the map's total before the report.
+    /// What is not yet handed on: it joins to the map's total before the report.
     fn outstanding(&self) -> Aggregate;
 
-    /// The fresh net of a map handed over: refusals 2, 3, 19, 7 to 10.
-    fn fresh(map: &Map) -> Result<Self, Refusal> {
+    /// The fresh net of a map handed over: refusals 2, 3, 19, 7 to 10; "12, after the map's numbers", for the way.
+    fn fresh(map: &Map, way: u8) -> Result<Self, Refusal> {
         map::accept(map)?;
-        Ok(Self::set_up(map))
+        if !is_way(way) {
+            return Err(Cause::OutOfRange.alone());
+        }
+        Ok(Self::set_up(map, way))
     }
 
     /// Number 12: kind, station numbers, and a report only at the desk and the desk.
@@ -153,10 +157,10 @@ pub trait Net: Clone + PartialEq + Debug {
 }
 
 /// Stations fresh for an accepted map; past k they are zero and asleep, and past c zero.
-pub fn fresh_stations(map: &Map) -> [Station; PLACES] {
+pub fn fresh_stations(map: &Map, way: u8) -> [Station; PLACES] {
     let mut stations = [Station::default(); PLACES];
     for (i, &neighbours) in map.sets().iter().enumerate() {
-        let held = Aggregate::of(map.counts_of(i).iter().copied().map(Cell::of));
+        let held = Aggregate::of_counts(map.counts_of(i), way);
         let waits = set::size(neighbours);
         stations[i] = Station { held, unstarted: neighbours, parent: map.desk, waits, state: ASLEEP };
     }
@@ -164,7 +168,7 @@ pub fn fresh_stations(map: &Map) -> [Station; PLACES] {
     stations
 }
 
-/// Form of the stations below k, of k, of c and of the desk.
+/// Form of the stations below k, of k, of c, of the desk and of the way.
 pub fn are_well_formed(config: Config, stations: &[Station; PLACES]) -> bool {
     (1..=MOST_STATIONS).contains(&config.k)
         && (0..config.k).zip(stations).all(|(own, station)| station.is_well_formed(own, config))
@@ -173,7 +177,7 @@ pub fn are_well_formed(config: Config, stations: &[Station; PLACES]) -> bool {
 /// What the stations below k that are not finished hold.
 pub fn unfinished_total(config: Config, stations: &[Station; PLACES]) -> Aggregate {
     let unfinished = stations[..config.k.into()].iter().filter(|station| station.state != FINISHED);
-    let mut total = Aggregate::default();
-    unfinished.for_each(|station| total.join(&station.held, config.classes));
+    let mut total = Aggregate::of_none(config);
+    unfinished.for_each(|station| total.join(&station.held, config));
     total
 }

@@ -1,6 +1,6 @@
 //! The grower sheet (document 02, request 7): lines of 40 bytes and a line feed for one reported lot.
 
-use super::aggregate::NO_READING;
+use super::aggregate::{NO_READING, SUM};
 use super::map::{self, Map};
 use super::meet::Meet;
 use super::net::{Config, Net};
@@ -63,7 +63,7 @@ pub fn lay_out(map: &Map, net: &Meet, buffer: &mut [u8]) -> Result<u32, Refusal>
     if !net.is_well_formed() {
         return Err(Cause::OutOfForm.alone());
     }
-    if net.config != Config::of(map) {
+    if net.config != Config::of(map, SUM) {
         return Err(Cause::OtherMap.alone());
     }
     if !is_reported(net) {

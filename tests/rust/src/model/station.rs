@@ -1,6 +1,6 @@
 //! One station (document 01): the process of document 001, Definition 3.1, with its refusals 11, 12, 13.
 
-use super::aggregate::{is_class_count, Aggregate};
+use super::aggregate::{is_class_count, is_way, Aggregate};
 use super::net::Config;
 use super::refusal::{admit, Refusal};
 use super::{set, MOST_STATIONS};
@@ -28,16 +28,19 @@ fn less_one(waits: u8) -> u8 {
 
 /// The events of Definition 3.1 without their guards.
 impl Station {
-    /// Form (11) at place `own` of `k`, and of c and the desk; of what it holds, only the classes in use are looked at.
-    pub fn is_well_formed(&self, own: u8, Config { k, classes, desk }: Config) -> bool {
+    /// Form (11) at place `own` of `k`, and of c, the desk and the way; of what it holds, only the classes in use are
+    /// looked at.
+    pub fn is_well_formed(&self, own: u8, config: Config) -> bool {
+        let Config { k, classes, desk, way } = config;
         is_class_count(classes)
+            && is_way(way)
             && desk < k
             && own < k
             && self.state <= FINISHED
             && self.parent < k
             && set::is_within(self.unstarted, k)
             && self.waits <= 64
-            && self.held.is_bounded(classes)
+            && self.held.is_bounded(config)
             && !set::contains(self.unstarted, own)
             && (own == desk || self.parent != own)
     }
@@ -70,8 +73,8 @@ impl Station {
     }
 
     /// Line 3.
-    pub fn take_answer(&mut self, gathered: &Aggregate, classes: u8) {
-        self.held.join(gathered, classes);
+    pub fn take_answer(&mut self, gathered: &Aggregate, config: Config) {
+        self.held.join(gathered, config);
         self.wait_less();
     }
 
@@ -99,6 +102,7 @@ pub struct Process {
     pub own: u8,
     pub classes: u8,
     pub desk: u8,
+    pub way: u8,
     pub station: Station,
 }
 
@@ -112,29 +116,35 @@ pub enum Event {
 }
 
 impl Process {
+    /// "For one station 64 stands for k."
+    fn config(&self) -> Config {
+        Config { k: MOST_STATIONS, classes: self.classes, desk: self.desk, way: self.way }
+    }
+
     pub fn is_well_formed(&self) -> bool {
-        let Process { own, classes, desk, station } = self;
-        station.is_well_formed(*own, Config { k: MOST_STATIONS, classes: *classes, desk: *desk })
+        self.station.is_well_formed(self.own, self.config())
     }
 
     /// One event; it gives an answer where the station sends one or reports.
     pub fn event(&mut self, event: Event) -> Result<Option<Answer>, Refusal> {
         admit(self.is_well_formed(), || self.is_in_range(event), || self.is_allowed(event))?;
-        let Process { classes, ref mut station, .. } = *self;
+        let config = self.config();
+        let station = &mut self.station;
         match event {
             Event::TakeStart(from) => station.take_start(from),
             Event::SendStart(to) => station.send_start(to),
-            Event::TakeAnswer(gathered) => station.take_answer(&gathered, classes),
-            Event::SendAnswer | Event::Report => return Ok(Some(station.finish(classes))),
+            Event::TakeAnswer(gathered) => station.take_answer(&gathered, config),
+            Event::SendAnswer | Event::Report => return Ok(Some(station.finish(config.classes))),
         }
         Ok(None)
     }
 
-    /// Number 12: a station number not below 64, or, in a class in use, a sum of 2^62 or more or a missing number above 64.
+    /// Number 12: a station number not below 64, or, in a class in use, a sum of 2^62 or more, but for a `none`
+    /// where it is in form, or a missing number above 64.
     fn is_in_range(&self, event: Event) -> bool {
         match event {
             Event::TakeStart(other) | Event::SendStart(other) => other < MOST_STATIONS,
-            Event::TakeAnswer(gathered) => gathered.is_bounded(self.classes),
+            Event::TakeAnswer(gathered) => gathered.is_bounded(self.config()),
             Event::SendAnswer | Event::Report => true,
         }
     }

@@ -1,7 +1,7 @@
 //! The program (document 01): draws and a map on standard input, a line for each step of stations that meet on standard
 //! output.
 
-use super::aggregate::{Aggregate, Cell};
+use super::aggregate::{Aggregate, Cell, SUM};
 use super::map::{self, Map};
 use super::meet::{Meet, ANSWER, PASS, WAKE};
 use super::net::{Net, Step};
@@ -35,7 +35,7 @@ fn parse(input: &[u8]) -> Result<(Vec<u16>, Map), Refusal> {
 
 /// A line a step until the draws run out or nothing is allowed, then the closing line.
 fn narrate(draws: &[u16], map: &Map) -> String {
-    let mut net = Meet::set_up(map);
+    let mut net = Meet::set_up(map, SUM);
     let mut text = String::new();
     let mut steps = 0;
     for &draw in draws {

@@ -1,8 +1,8 @@
 //! The tree behind a total (document 02, request 6): what the parent records say after the report, from them alone.
 
-use super::aggregate::{Aggregate, Cell};
+use super::aggregate::Aggregate;
 use super::map::Map;
-use super::net::Net;
+use super::net::{Config, Net};
 use super::set;
 
 pub struct Tree<'a> {
@@ -47,12 +47,14 @@ impl<'a> Tree<'a> {
         Some(way)
     }
 
-    /// "The total of its own count and those of all stations whose parents lead through it", class by class.
-    pub fn total(&self, station: u8) -> Aggregate {
-        let mut total = Aggregate::default();
+    /// "The total of its own count and those of all stations whose parents lead through it", class by class, joined
+    /// the way.
+    pub fn total(&self, station: u8, way: u8) -> Aggregate {
+        let config = Config::of(self.map, way);
+        let mut total = Aggregate::of_none(config);
         for (i, counts) in (0..self.map.k).map(|i| (i, self.map.counts_of(i.into()))) {
             if self.way(i).is_some_and(|way| way.contains(&station)) {
-                total.join(&Aggregate::of(counts.iter().copied().map(Cell::of)), self.map.classes);
+                total.join(&Aggregate::of_counts(counts, way), config);
             }
         }
         total

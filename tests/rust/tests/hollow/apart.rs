@@ -12,7 +12,7 @@ use conformance::model::station::{ACTIVE, FINISHED};
 
 /// Enough nets to meet each fault, and enough lists.
 const NETS: u64 = 400;
-const LISTS: u64 = 60;
+const LISTS: u64 = 200;
 
 #[derive(Clone, Copy, Default, PartialEq, Debug)]
 enum Fault {

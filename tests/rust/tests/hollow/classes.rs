@@ -84,9 +84,9 @@ impl<N: Net> faulty::Fault<N> for Fault {
         }
     }
 
-    fn fresh(self, map: &Map, net: &mut N) -> Result<(), Refusal> {
+    fn fresh(self, map: &Map, way: u8, net: &mut N) -> Result<(), Refusal> {
         let before = net.clone();
-        Model.fresh(map, net)?;
+        Model.fresh(map, way, net)?;
         let past_c = map.classes.into()..CLASSES;
         for (station, was) in net.stations_mut().iter_mut().zip(before.stations()) {
             match self {

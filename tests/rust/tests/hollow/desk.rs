@@ -85,12 +85,12 @@ impl<N: Net> faulty::Fault<N> for Fault {
         net.config_mut().desk = desk;
     }
 
-    fn fresh(self, map: &Map, net: &mut N) -> Result<(), Refusal> {
+    fn fresh(self, map: &Map, way: u8, net: &mut N) -> Result<(), Refusal> {
         let before = net.config();
-        Model.fresh(map, net)?;
+        Model.fresh(map, way, net)?;
         if self == Fault::FirstStartsAtZero {
             let stations = *net.stations();
-            Model.fresh(&Map { desk: 0, ..*map }, net)?;
+            Model.fresh(&Map { desk: 0, ..*map }, way, net)?;
             *net.stations_mut() = stations;
             net.config_mut().desk = map.desk;
         }

@@ -3,6 +3,7 @@
 use super::is_caught;
 use conformance::calls::{Model, NetCalls};
 use conformance::compare::net::{freshness, hostile, list};
+use conformance::gen::aggregate::way;
 use conformance::gen::map::accepted;
 use conformance::gen::net::Sample;
 use conformance::model::aggregate::Aggregate;
@@ -35,8 +36,8 @@ pub trait Fault<N: Net>: Copy + Default + PartialEq + Debug {
 
     fn make(self, net: &mut N, step: Step);
 
-    fn fresh(self, map: &Map, net: &mut N) -> Result<(), Refusal> {
-        Model.fresh(map, net)
+    fn fresh(self, map: &Map, way: u8, net: &mut N) -> Result<(), Refusal> {
+        Model.fresh(map, way, net)
     }
 
     /// A call on the net under this fault.
@@ -58,8 +59,8 @@ impl<N: Net, F: Fault<N>> Net for Faulty<N, F> {
     const REPORT: u8 = N::REPORT;
     const LAST: u8 = N::LAST;
 
-    fn set_up(map: &Map) -> Faulty<N, F> {
-        Faulty { net: N::set_up(map), fault: F::default() }
+    fn set_up(map: &Map, way: u8) -> Faulty<N, F> {
+        Faulty { net: N::set_up(map, way), fault: F::default() }
     }
 
     fn kinds(&self) -> u8 {
@@ -111,8 +112,8 @@ impl<N: Net, F: Fault<N>> Net for Faulty<N, F> {
 pub struct Under<F>(pub F);
 
 impl<N: Net, F: Fault<N>> NetCalls<N> for Under<F> {
-    fn fresh(&self, map: &Map, net: &mut N) -> Result<(), Refusal> {
-        self.0.fresh(map, net)
+    fn fresh(&self, map: &Map, way: u8, net: &mut N) -> Result<(), Refusal> {
+        self.0.fresh(map, way, net)
     }
 
     fn step(&self, net: &mut N, step: Step) -> Result<Step, Refusal> {
@@ -131,9 +132,9 @@ impl<N: Net, F: Fault<N>> NetCalls<N> for Under<F> {
 /// Demand 3 and the run's formula, from calls and answers alone.
 pub fn demand_3<N: Sample>(subject: &impl NetCalls<N>, lists: u64) {
     for_cases(lists, |rng| {
-        let map = accepted(rng);
-        let mut net = N::set_up(&map);
-        subject.fresh(&map, &mut net).expect("the map is accepted");
+        let (map, way) = (accepted(rng), way(rng));
+        let mut net = N::set_up(&map, way);
+        subject.fresh(&map, way, &mut net).expect("the map is accepted");
         list(subject, rng, &map, net, |net, call| subject.call(net, call));
     });
 }

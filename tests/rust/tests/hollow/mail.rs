@@ -198,9 +198,9 @@ impl faulty::Fault<Mail> for Fault {
         }
     }
 
-    fn fresh(self, map: &Map, net: &mut Mail) -> Result<(), Refusal> {
+    fn fresh(self, map: &Map, way: u8, net: &mut Mail) -> Result<(), Refusal> {
         let before = net.clone();
-        let opened = Model.fresh(map, net);
+        let opened = Model.fresh(map, way, net);
         for (outbox, mut was) in net.outboxes.iter_mut().zip(before.outboxes) {
             match self {
                 Fault::FreshLeaves(plane) => *plane.of(outbox) = *plane.of(&mut was),

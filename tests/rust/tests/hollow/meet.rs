@@ -100,8 +100,8 @@ impl faulty::Fault<Meet> for Fault {
 }
 
 impl NetCalls<Meet> for Fault {
-    fn fresh(&self, map: &Map, net: &mut Meet) -> Result<(), Refusal> {
-        Model.fresh(map, net)?;
+    fn fresh(&self, map: &Map, way: u8, net: &mut Meet) -> Result<(), Refusal> {
+        Model.fresh(map, way, net)?;
         if *self == Fault::NoReadingAddedToTheSum {
             for held in net.stations.iter_mut().map(|station| &mut station.held) {
                 let cells = (0..CLASSES).map(|class| match held.cell(class) {

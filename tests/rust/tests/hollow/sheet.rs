@@ -3,7 +3,7 @@
 use super::is_caught;
 use conformance::calls::{Model, SheetCalls};
 use conformance::compare::sheet::{rooms, sheets, sums};
-use conformance::model::aggregate::NO_READING;
+use conformance::model::aggregate::{NO_READING, SUM};
 use conformance::model::map::{accept, Map, LOT_LIMIT};
 use conformance::model::meet::Meet;
 use conformance::model::net::{Config, Net};
@@ -63,8 +63,8 @@ impl Fault {
         match self {
             Fault::DeskUntested => desk.state = FINISHED,
             Fault::TotalUntested => desk.held.sums.iter_mut().for_each(|sum| *sum %= TOTAL_LIMIT),
-            Fault::TotalsOfTheMap if desk.state == FINISHED => desk.held = map.total(),
-            Fault::ConfigUntested => seen.config = Config::of(map),
+            Fault::TotalsOfTheMap if desk.state == FINISHED => desk.held = map.total(SUM),
+            Fault::ConfigUntested => seen.config = Config::of(map, SUM),
             _ => {}
         }
         seen

@@ -5,6 +5,7 @@ use super::is_caught;
 use conformance::calls::{Model, StationCalls};
 use conformance::compare::station::{at_extremes, lists};
 use conformance::model::aggregate::{Aggregate, Cell, MOST_MISSING};
+use conformance::model::net::Config;
 use conformance::model::refusal::{Cause, Refusal};
 use conformance::model::station::{Event, Process, ASLEEP};
 use conformance::model::{set, CLASSES, MOST_CLASSES, MOST_STATIONS};
@@ -133,12 +134,14 @@ impl Fault {
 }
 
 /// An event without its guards, and what it gives.
-fn make(Process { classes, station, .. }: &mut Process, event: Event) -> Aggregate {
+fn make(process: &mut Process, event: Event) -> Aggregate {
+    let Process { classes, desk, way, .. } = *process;
+    let station = &mut process.station;
     match event {
         Event::TakeStart(from) => station.take_start(from),
         Event::SendStart(to) => station.send_start(to),
-        Event::TakeAnswer(gathered) => station.take_answer(&gathered, *classes),
-        Event::SendAnswer | Event::Report => return station.finish(*classes).gathered,
+        Event::TakeAnswer(gathered) => station.take_answer(&gathered, Config { k: MOST_STATIONS, classes, desk, way }),
+        Event::SendAnswer | Event::Report => return station.finish(classes).gathered,
     }
     Aggregate::default()
 }

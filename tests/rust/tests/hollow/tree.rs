@@ -26,7 +26,7 @@ impl<N: Net> faulty::Fault<N> for Fault {
         let before = net.clone();
         let brought = net.brought(step);
         net.make(step);
-        let (desk, classes) = (net.config().desk, net.config().classes);
+        let (desk, config) = (net.config().desk, net.config());
         match self {
             Fault::Nothing => {}
             Fault::OldParentKeptOnWaking => {
@@ -45,7 +45,7 @@ impl<N: Net> faulty::Fault<N> for Fault {
                 if let Some(brought) = brought {
                     let receiver = usize::from(step.receiver);
                     net.stations_mut()[receiver].held = before.stations()[receiver].held;
-                    net.stations_mut()[usize::from(desk)].held.join(&brought, classes);
+                    net.stations_mut()[usize::from(desk)].held.join(&brought, config);
                 }
             }
         }

@@ -7,8 +7,7 @@ use Rattle.aggregate.specs.Aggregate.{rootOf}
 use Rattle.station.specs.declared.Station.{Station}
 use Rattle.station.specs.Events.{finished}
 use Rattle.stations.specs.Stations.{stationAt}
-use Rattle.stations.specs.Words.{configIn, stationsIn, stationRead}
-use Rattle.stations.proofs.Words.{station-read}
+use Rattle.stations.specs.Words.{configIn, stationsIn}
 use Rattle.schedule.specs.declared.Step.{Step}
 use Rattle.rendezvous.specs.Figure.{mayStep}
 use Rattle.rendezvous.specs.Telling.{mayTell}
@@ -26,17 +25,17 @@ same-step : (s : Step) {t u : Config} {x v y w : Station} → t ≡ u → x ≡ 
     → mayStep t (s .kind) (s .sender) (s .receiver) x y ≡ mayStep u (s .kind) (s .sender) (s .receiver) v w
 same-step s e f g = rw (e, f, g)
 
-load-requires : tie.Need-load-requires
-load-requires c κs = search needs
+read-requires : tie.Need-read-requires
+read-requires c κs = search needs
 
-load-requires-2 : tie.Need-load-requires-2
-load-requires-2 c κs = search needs
+read-requires-2 : tie.Need-read-requires-2
+read-requires-2 c κs = search needs
 
 root-requires : tie.Need-root-requires
 root-requires c κs = search needs
 
-load-requires-3 : tie.Need-load-requires-3
-load-requires-3 c κs = search needs
+read-requires-3 : tie.Need-read-requires-3
+read-requires-3 c κs = search needs
 
 may-tell-requires : tie.Need-may-tell-requires
 may-tell-requires c κs = search needs
@@ -48,16 +47,15 @@ returns c kept =
     let words = start .args .net .now in
     let step = start .args .step in
     let low = start .pre .0 in
-    let desk : c .before .load3 .result ≡ stationAt (stationsIn words) (rootOf (configIn words)) =
-    c .before .load3 .ensures
-    ∙ ap (stationRead words) (c .before .before .root .ensures)
-    ∙ station-read words (rootOf (start .args .t)) (low .2)
+    let desk : c .before .read3 .result ≡ stationAt (stationsIn words) (rootOf (configIn words)) =
+    c .before .read3 .ensures
+    ∙ ap (stationAt (stationsIn words)) (c .before .before .root .ensures)
     ∙ ap (λ (t : Config). stationAt (stationsIn words) (rootOf t)) (start .pre .1) in
     rw (c .before .before .before .if1 .taken)
     (c .may-tell .ensures
     ∙ same-tell step (start .pre .1) desk
-    (c .before .before .before .before .before .before .load .ensures ∙ station-read words (step .sender) (low .0))
-    (c .before .before .before .before .before .load2 .ensures ∙ station-read words (step .receiver) (low .1)))
+    (c .before .before .before .before .before .before .read .ensures)
+    (c .before .before .before .before .before .read2 .ensures))
 
 may-step-requires : tie.Need-may-step-requires
 may-step-requires c κs = search needs
@@ -71,17 +69,17 @@ returns-2 c kept =
     rw (ne-eqb _ 5 (c .before .if1 .left))
     (c .may-step .ensures
     ∙ same-step step (start .pre .1)
-    (c .before .before .before .before .load .ensures ∙ station-read words (step .sender) (low .0))
-    (c .before .before .before .load2 .ensures ∙ station-read words (step .receiver) (low .1)))
+    (c .before .before .before .before .read .ensures)
+    (c .before .before .before .read2 .ensures))
 
 pub is-allowed-spec : {M : Type 1} → statement M
 is-allowed-spec =
     tie.close
     (tie.spec
-    load-requires
-    load-requires-2
+    read-requires
+    read-requires-2
     root-requires
-    load-requires-3
+    read-requires-3
     may-tell-requires
     returns
     may-step-requires

@@ -10,9 +10,8 @@ use Rattle.aggregate.specs.declared.Aggregate.{Aggregate}
 use Rattle.aggregate.specs.Aggregate.{rootOf, joinable, clipped}
 use Rattle.station.specs.declared.Station.{Station}
 use Rattle.stations.specs.Stations.{stationAt}
-use Rattle.stations.specs.Words.{stationsIn, stationRead}
+use Rattle.stations.specs.Words.{stationsIn}
 use Rattle.stations.specs.Kept.{keptIn}
-use Rattle.stations.proofs.Words.{station-read}
 use Rattle.stations.proofs.Kept.{kept-read}
 use Rattle.rendezvous.specs.Net.{Net}
 use Rattle.rendezvous.specs.internal.Receivers.{sentBy, receivedBy}
@@ -46,28 +45,22 @@ place-requires c κs = search needs
 place-requires-2 : tie.Need-place-requires-2
 place-requires-2 c κs = search needs
 
-load-requires : tie.Need-load-requires
-load-requires c κs = search needs
+read-requires : tie.Need-read-requires
+read-requires c κs = search needs
 
-load-requires-2 : tie.Need-load-requires-2
-load-requires-2 c κs = search needs
+read-requires-2 : tie.Need-read-requires-2
+read-requires-2 c κs = search needs
 
 -- the two stations are those of the step
-module _ (c : tie.After-load2) where
+module _ (c : tie.After-read2) where
   abbrev startOf : tie.Start
   startOf = c .before .before .before .before .before .before
 
-  sender : c .before .before .load .result ≡ stationAt (stationsIn (startOf .args .net .now)) (startOf .args .step .sender)
-  sender =
-      c .before .before .load .ensures
-      ∙ ap (stationRead (startOf .args .net .now)) (c .before .before .before .before .before .place .ensures)
-      ∙ station-read (startOf .args .net .now) (startOf .args .step .sender) (startOf .pre .0 .0)
+  sender : c .before .before .read .result ≡ stationAt (stationsIn (startOf .args .net .now)) (startOf .args .step .sender)
+  sender = c .before .before .read .ensures
 
-  receiver : c .load2 .result ≡ stationAt (stationsIn (startOf .args .net .now)) (startOf .args .step .receiver)
-  receiver =
-      c .load2 .ensures
-      ∙ ap (stationRead (startOf .args .net .now)) (c .before .before .before .before .place2 .ensures)
-      ∙ station-read (startOf .args .net .now) (startOf .args .step .receiver) (startOf .pre .0 .1)
+  receiver : c .read2 .result ≡ stationAt (stationsIn (startOf .args .net .now)) (startOf .args .step .receiver)
+  receiver = c .read2 .ensures
 
 send-requires : tie.Need-send-requires
 send-requires c κs = search needs
@@ -115,8 +108,8 @@ make-spec =
     (tie.spec
     place-requires
     place-requires-2
-    load-requires
-    load-requires-2
+    read-requires
+    read-requires-2
     send-requires
     receive-requires
     store-requires

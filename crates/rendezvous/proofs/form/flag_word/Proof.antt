@@ -27,7 +27,7 @@ add-result-2 : tie.Need-add-result-2
 add-result-2 c = omega (arith, flag-is c .1)
 
 returns : tie.Need-returns
-returns c = let w = c .before .before .args .w in ap (λ (x : ℕ). (w / 2 ^ 32 * 2 ^ 8 + x) * 2 ^ 24 + w % 2 ^ 24) (flag-is c .0)
+returns c = let w = c .before .before .args .w in ap (λ (x : ℕ). (w / 2 ^ 40 * 2 ^ 8 + x) * 2 ^ 32 + w % 2 ^ 32) (flag-is c .0)
 
 pub flag-word-spec : {M : Type 1} → statement M
 flag-word-spec = tie.close (tie.spec mul-result add-result mul-result-2 add-result-2 returns)

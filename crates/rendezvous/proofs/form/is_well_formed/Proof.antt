@@ -39,10 +39,10 @@ same-k c = ap (λ (t : Config). t .k) (c .before .before .config-in .ensures)
 opened : (c : tie.Else2 Inv-loop μ-loop) → valid (net (startOf c) .config) ≡ true
 opened c = ap valid (sym (c .before .before .config-in .ensures)) ∙ sym (c .before .is-valid .ensures) ∙ not-false _ (c .if2 .left)
 
-low : (c : tie.After-load Inv-loop μ-loop) → c .before .before .loop .i < 64
+low : (c : tie.In-loop Inv-loop μ-loop) → c .before .loop .i < 64
 low c =
-    let first = c .before .before .before in
-    omega (arith, valid-k _ (opened first) .1, same-k first, c .before .loop-test .taken)
+    let first = c .before .before in
+    omega (arith, valid-k _ (opened first) .1, same-k first, c .loop-test .taken)
 
 form-told : (c : tie.Joined3 Inv-loop μ-loop)
     → c .if3 .placed ≡ placed (net (startOf (c .before .before .before .before))) (c .before .before .before .loop .i)
@@ -52,8 +52,8 @@ form-told c =
     by-sum (c .if3 .came)
     (λ b. rw (eq-eqb _ 1 (b .0 .taken)) (b .2 ∙ b .1 .ensures))
     (λ b. rw (ne-eqb _ 1 (b .0 .left)) (b .2 ∙ b .1 .ensures))
-    ∙ place-read (start .args .net .now) (start .args .totals .now) (c .before .before .before .loop .i) (low (c .before))
-    (first .before .before .before .before .carrying-in .ensures) (first .before .before .config-in .ensures) (c .before .load .ensures)
+    ∙ place-read (start .args .net .now) (start .args .totals .now) (c .before .before .before .loop .i) (low (c .before .before))
+    (first .before .before .before .before .carrying-in .ensures) (first .before .before .config-in .ensures) (c .before .read .ensures)
 
 carrying-in-requires : tie.Need-carrying-in-requires Inv-loop μ-loop
 carrying-in-requires c κs = search needs
@@ -78,8 +78,8 @@ loop-holds : tie.Need-loop-holds Inv-loop μ-loop
 unfolding allBelow
 loop-holds c = (omega arith, refl)
 
-load-requires : tie.Need-load-requires Inv-loop μ-loop
-load-requires c κs = search needs
+read-requires : tie.Need-read-requires Inv-loop μ-loop
+read-requires c κs = low c
 
 is-carrying-place-requires : tie.Need-is-carrying-place-requires Inv-loop μ-loop
 is-carrying-place-requires c κs = search needs
@@ -96,7 +96,7 @@ returns-3 c =
     sym (barred-place (net (startOf first)) (flag-told (first .before .before .before)) (l .i) (omega (arith, loaded .before .loop-test .taken, same-k first)) broken)
 
 add-i : tie.Need-add-i Inv-loop μ-loop
-add-i c = omega (arith, low (c .before .before))
+add-i c = omega (arith, low (c .before .before .before))
 
 loop-less : tie.Need-loop-less Inv-loop μ-loop
 loop-less c = omega (arith, c .before .before .before .loop-test .taken)
@@ -126,7 +126,7 @@ is-well-formed-spec =
     is-valid-requires
     returns-2
     loop-holds
-    load-requires
+    read-requires
     is-carrying-place-requires
     is-well-formed-requires
     returns-3

@@ -2,14 +2,13 @@
 use mathlib.Core.Path.{_∙_, ap}
 use borrow.Author.Needs.{needs}
 use Rattle.station.specs.declared.Station.{Station}
-use Rattle.stations.proofs.Words.{station-read}
 use Rattle.rendezvous.specs.declared.listing.Sends.{Sends}
 use Rattle.rendezvous.specs.internal.Receivers.{sendsOf, restated, withSends}
 use Rattle.rendezvous.proofs.listing.renew.Statement.{statement}
 use Rattle.rendezvous.proofs.listing.renew.Tie as tie
 
-load-requires : tie.Need-load-requires
-load-requires c κs = search needs
+read-requires : tie.Need-read-requires
+read-requires c κs = search needs
 
 find-sends-requires : tie.Need-find-sends-requires
 find-sends-requires c κs = search needs
@@ -25,11 +24,11 @@ returns c =
     let loaded = c .before .before .before .before in
     let start = loaded .before in
     let a = start .args in
-    let is = loaded .load .ensures ∙ station-read (a .net .now) (a .j) (start .pre) in (
+    let is = loaded .read .ensures in (
       c .before .keep .ensures
           ∙ ap (λ (x : Sends). withSends (a .kept .now) (a .j) x) (c .before .before .before .find-sends .ensures ∙ ap (sendsOf (a .t) (a .j)) is),
       c .restate .ensures ∙ ap (λ (s : Station). restated (a .j) (s .state) (a .states)) is,
     )
 
 pub renew-spec : {M : Type 1} → statement M
-renew-spec = tie.close (tie.spec load-requires find-sends-requires keep-requires restate-requires returns)
+renew-spec = tie.close (tie.spec read-requires find-sends-requires keep-requires restate-requires returns)

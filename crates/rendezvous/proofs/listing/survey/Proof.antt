@@ -19,7 +19,6 @@ use Rattle.aggregate.specs.Aggregate.{valid}
 use Rattle.aggregate.proofs.Laws.{valid-k}
 use Rattle.station.specs.declared.Station.{Station}
 use Rattle.station.specs.Events as events
-use Rattle.stations.proofs.Words.{station-read}
 use Rattle.rendezvous.specs.declared.listing.States.{States}
 use Rattle.rendezvous.specs.Net.{Net, netIn, station, wellFormed}
 use Rattle.rendezvous.specs.internal.Receivers.{inState, sendsOf, AreSends, Surveyed}
@@ -61,13 +60,13 @@ opened : (c : tie.Else2 Inv-loop μ-loop) → valid (netOf c .config) ≡ true
 opened c = ap valid (sym (told c)) ∙ sym (c .before .is-valid .ensures) ∙ not-false _ (c .if2 .left)
 
 -- the station that a turn reads
-low : (c : tie.After-load Inv-loop μ-loop) → c .before .before .loop .j < 64
+low : (c : tie.In-loop Inv-loop μ-loop) → c .before .loop .j < 64
 low c =
-    let first = c .before .before .before in
-    omega (arith, valid-k _ (opened first) .1, same-k first, c .before .loop-test .taken)
+    let first = c .before .before in
+    omega (arith, valid-k _ (opened first) .1, same-k first, c .loop-test .taken)
 
-read : (c : tie.After-load Inv-loop μ-loop) → c .load .result ≡ station (netOf (c .before .before .before)) (c .before .before .loop .j)
-read c = c .load .ensures ∙ station-read (c .before .before .before .before .before .before .before .before .args .net .now) (c .before .before .loop .j) (low c)
+read : (c : tie.After-read Inv-loop μ-loop) → c .read .result ≡ station (netOf (c .before .before .before)) (c .before .before .loop .j)
+read c = c .read .ensures
 
 -- the flag is one of the two
 flag-told : (c : tie.Else1 Inv-loop μ-loop) → netIn (c .before .before .args .net .now) (c .before .before .args .totals .now) .carrying ≤ 1
@@ -81,8 +80,8 @@ form-told c =
     by-sum (c .if3 .came)
     (λ b. rw (eq-eqb _ 1 (b .0 .taken)) (b .2 ∙ b .1 .ensures))
     (λ b. rw (ne-eqb _ 1 (b .0 .left)) (b .2 ∙ b .1 .ensures))
-    ∙ place-read (start .args .net .now) (start .args .totals .now) (c .before .before .before .loop .j) (low (c .before))
-    (first .before .before .before .before .carrying-in .ensures) (told first) (c .before .load .ensures)
+    ∙ place-read (start .args .net .now) (start .args .totals .now) (c .before .before .before .loop .j) (low (c .before .before))
+    (first .before .before .before .before .carrying-in .ensures) (told first) (c .before .read .ensures)
 
 -- a turn adds station j to the set of its state
 asleep-next : (c : tie.After-bit-if Inv-loop μ-loop) → let at = c .before .before .before .before .before .before in
@@ -90,14 +89,14 @@ asleep-next : (c : tie.After-bit-if Inv-loop μ-loop) → let at = c .before .be
 asleep-next c =
     let loaded = c .before .before .before .before in
     let l = loaded .before .before .loop in
-    set-next _ (l .j) (low loaded) (l .inv .2) (c .bit-if .ensures ∙ ap (λ (s : Station). bitIf (eqb (s .state) events.asleep) (l .j)) (read loaded))
+    set-next _ (l .j) (low (loaded .before)) (l .inv .2) (c .bit-if .ensures ∙ ap (λ (s : Station). bitIf (eqb (s .state) events.asleep) (l .j)) (read loaded))
 
 active-next : (c : tie.After-bit-if2 Inv-loop μ-loop) → let at = c .before .before .before .before .before .before .before .before in
     (at .loop .active + c .bit-if2 .result ≡ below (netOf (at .before)) events.active (at .loop .j + 1)) × (at .loop .active + c .bit-if2 .result < 2 ^ 64)
 active-next c =
     let loaded = c .before .before .before .before .before .before in
     let l = loaded .before .before .loop in
-    set-next _ (l .j) (low loaded) (l .inv .3) (c .bit-if2 .ensures ∙ ap (λ (s : Station). bitIf (eqb (s .state) events.active) (l .j)) (read loaded))
+    set-next _ (l .j) (low (loaded .before)) (l .inv .3) (c .bit-if2 .ensures ∙ ap (λ (s : Station). bitIf (eqb (s .state) events.active) (l .j)) (read loaded))
 
 carrying-in-requires : tie.Need-carrying-in-requires Inv-loop μ-loop
 carrying-in-requires c κs = search needs
@@ -130,8 +129,8 @@ loop-holds : tie.Need-loop-holds Inv-loop μ-loop
 unfolding allBelow setOf
 loop-holds c = (omega arith, refl, refl, refl, kept-none _ (c .before .before .before .before .before .pre))
 
-load-requires : tie.Need-load-requires Inv-loop μ-loop
-load-requires c κs = search needs
+read-requires : tie.Need-read-requires Inv-loop μ-loop
+read-requires c κs = low c
 
 is-carrying-place-requires : tie.Need-is-carrying-place-requires Inv-loop μ-loop
 is-carrying-place-requires c κs = search needs
@@ -168,10 +167,10 @@ find-sends-requires : tie.Need-find-sends-requires Inv-loop μ-loop
 find-sends-requires c κs = search needs
 
 keep-requires : tie.Need-keep-requires Inv-loop μ-loop
-keep-requires c κs = low (c .before .before .before .before .before .before .before .before)
+keep-requires c κs = low (c .before .before .before .before .before .before .before .before .before)
 
 add-j : tie.Need-add-j Inv-loop μ-loop
-add-j c = omega (arith, low (c .before .before .before .before .before .before .before .before .before))
+add-j c = omega (arith, low (c .before .before .before .before .before .before .before .before .before .before))
 
 loop-less : tie.Need-loop-less Inv-loop μ-loop
 loop-less c = search needs
@@ -187,7 +186,7 @@ loop-again c =
       asleep-next (c .before .before .before .before .before) .0,
       active-next (c .before .before .before) .0,
       subst (AreSends (netOf first) (l .j + 1)) (sym (c .keep .ensures))
-          (kept-next (netOf first) (l .inv .4) (low loaded)
+          (kept-next (netOf first) (l .inv .4) (low (loaded .before))
           (c .before .before .find-sends .ensures ∙ ap₂ (λ (t : Config) (s : Station). sendsOf t (l .j) s) (told first) (read loaded))),
     )
 
@@ -217,7 +216,7 @@ survey-spec =
     unformed-requires-2
     returns-2
     loop-holds
-    load-requires
+    read-requires
     is-carrying-place-requires
     is-well-formed-requires
     unformed-requires-3

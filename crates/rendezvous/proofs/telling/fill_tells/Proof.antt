@@ -11,8 +11,6 @@ use Rattle.finite.proofs.Cases.{by-sum}
 use Rattle.aggregate.specs.declared.Config.{Config}
 use Rattle.aggregate.specs.Aggregate.{rootOf}
 use Rattle.station.specs.declared.Station.{Station}
-use Rattle.stations.specs.Words.{stationRead}
-use Rattle.stations.proofs.Words.{station-read}
 use Rattle.rendezvous.specs.Net.{Net, netIn, station}
 use Rattle.rendezvous.specs.Telling.{isReported}
 use Rattle.rendezvous.specs.internal.Receivers.{AreTells}
@@ -36,12 +34,11 @@ same-k : (c : tie.Start Inv-loop μ-loop) → c .args .t .k ≡ net c .config .k
 same-k c = ap (λ (t : Config). t .k) (c .pre .0)
 
 -- the desk
-desk : (c : tie.After-load Inv-loop μ-loop) → let start = c .before .before in c .load .result ≡ station (net start) (rootOf (net start .config))
+desk : (c : tie.After-read Inv-loop μ-loop) → let start = c .before .before in c .read .result ≡ station (net start) (rootOf (net start .config))
 desk c =
     let start = c .before .before in
-    c .load .ensures
-    ∙ ap (stationRead (start .args .net .now)) (c .before .root .ensures)
-    ∙ station-read (start .args .net .now) (rootOf (start .args .t)) (start .pre .1 .0 .1)
+    c .read .ensures
+    ∙ ap (station (net start)) (c .before .root .ensures)
     ∙ ap (λ (t : Config). station (net start) (rootOf t)) (start .pre .0)
 
 reported : (c : tie.Then1 Inv-loop μ-loop) → isReported (net (c .before .before .before .before)) ≡ true
@@ -62,8 +59,8 @@ in-net c = omega (arith, c .if2 .taken, same-k (startOf (c .before .before)))
 root-requires : tie.Need-root-requires Inv-loop μ-loop
 root-requires c κs = search needs
 
-load-requires : tie.Need-load-requires Inv-loop μ-loop
-load-requires c κs = search needs
+read-requires : tie.Need-read-requires Inv-loop μ-loop
+read-requires c κs = omega (arith, c .root .ensures, c .before .pre .1 .0 .1)
 
 loop-holds : tie.Need-loop-holds Inv-loop μ-loop
 loop-holds c =
@@ -147,7 +144,7 @@ fill-tells-spec =
     Inv-loop
     μ-loop
     root-requires
-    load-requires
+    read-requires
     loop-holds
     find-teller-requires
     cast-at

@@ -3,14 +3,13 @@ use mathlib.Core.Path.{_≡_, refl, sym, ap, _∙_, subst}
 use mathlib.Core.Bool.{Bool, true, false, not, _||_}
 use mathlib.Core.List.{List, []}
 use Prim.Native.Nat.{ℕ, _≤_}
+use native.Mathlib.Omega.{arith}
 use lib.Dec.{eqb, leb}
 use borrow.Author.Tests.{eq-eqb, ne-eqb, leb-false}
 use Rattle.finite.proofs.Cases.{clash}
 use Rattle.aggregate.specs.declared.Config.{Config}
 use Rattle.aggregate.specs.Aggregate.{rootOf}
 use Rattle.station.specs.declared.Station.{Station}
-use Rattle.stations.specs.Words.{stationRead}
-use Rattle.stations.proofs.Words.{station-read}
 use Rattle.rendezvous.specs.Net.{Net, netIn, station}
 use Rattle.rendezvous.specs.internal.Receivers.{Teller}
 use Rattle.rendezvous.proofs.Tells.{no-teller, is-teller, untold-teller, teller-any}
@@ -28,8 +27,8 @@ few c = subst (λ (t : Config). t .k ≤ 64) (c .pre .0) (c .pre .1 .0 .0)
 root-read : (c : tie.After-root) → c .root .result ≡ rootOf (net (c .before) .config)
 root-read c = c .root .ensures ∙ ap rootOf (c .before .pre .0)
 
-read : (c : tie.After-load) → c .load .result ≡ station (net (c .before .before)) (c .before .before .args .i)
-read c = let start = c .before .before in c .load .ensures ∙ station-read (start .args .net .now) (start .args .i) (start .pre .1 .0 .1 .1)
+read : (c : tie.After-read) → c .read .result ≡ station (net (c .before .before)) (c .before .before .args .i)
+read c = c .read .ensures
 
 -- the tests of the first branch
 none-left : (a b c : Bool) → (a || not b || c) ≡ false → (a ≡ false) × (b ≡ true) × (c ≡ false)
@@ -47,8 +46,8 @@ passed c =
 root-requires : tie.Need-root-requires
 root-requires c κs = search needs
 
-load-requires : tie.Need-load-requires
-load-requires c κs = search needs
+read-requires : tie.Need-read-requires
+read-requires c κs = search needs
 
 returns : tie.Need-returns
 returns c kept =
@@ -58,25 +57,19 @@ returns c kept =
     teller-any (start .args .net .now) [] kept (start .args .i) 64 (no-teller n (few start) (start .pre .1 .1) (start .args .i) taken)
 
 -- who is told where the parent is known
-given : (c : tie.After-load) (kept : List ℕ) → let start = c .before .before in
-    Teller (net start) (start .args .i) (station (net start) (start .args .i) .parent) → Teller (netIn (start .args .net .now) kept) (start .args .i) (c .load .result .parent)
+given : (c : tie.After-read) (kept : List ℕ) → let start = c .before .before in
+    Teller (net start) (start .args .i) (station (net start) (start .args .i) .parent) → Teller (netIn (start .args .net .now) kept) (start .args .i) (c .read .result .parent)
 given c kept T =
     let start = c .before .before in
     teller-any (start .args .net .now) [] kept (start .args .i) _ (subst (Teller (net start) (start .args .i)) (sym (ap (λ (x : Station). x .parent) (read c))) T)
 
 -- the parent, where it is not the desk
-parent-read : (c : tie.After-load2) → let loaded = c .before .before .before .before in
+parent-read : (c : tie.After-read2) → let loaded = c .before .before .before .before in
     let start = loaded .before .before in
-    c .load2 .result ≡ station (net start) (station (net start) (start .args .i) .parent)
+    c .read2 .result ≡ station (net start) (station (net start) (start .args .i) .parent)
 parent-read c =
-    let first = c .before .before in
-    let loaded = first .before .before in
-    let start = loaded .before .before in
-    let words = start .args .net .now in
-    let parent = station (net start) (start .args .i) .parent in
-    c .load2 .ensures
-    ∙ ap (λ (s : Station). stationRead words (s .parent)) (read loaded)
-    ∙ station-read words parent (leb-false 64 parent (passed first .2))
+    let loaded = c .before .before .before .before in
+    c .read2 .ensures ∙ ap (λ (s : Station). station (net (loaded .before .before)) (s .parent)) (read loaded)
 
 no-desk : (c : tie.Else2) → let loaded = c .before .before .before in
     let start = loaded .before .before in
@@ -95,8 +88,11 @@ returns-2 c kept =
     sym (ap (λ (s : Station). s .parent) (read loaded)) ∙ c .if2 .taken ∙ root-read (loaded .before) in
     given loaded kept (is-teller n (few start) (start .pre .1 .1) (start .args .i) (p .0) (p .1) (rw (eq-eqb _ _ at-root) (start .pre .1 .1)))
 
-load-requires-2 : tie.Need-load-requires-2
-load-requires-2 c κs = search needs
+read-requires-2 : tie.Need-read-requires-2
+read-requires-2 c κs =
+    let loaded = c .before .before .before in
+    let start = loaded .before .before in
+    omega (arith, ap (λ (s : Station). s .parent) (read loaded), leb-false 64 (station (net start) (start .args .i) .parent) (passed (c .before) .2))
 
 returns-3 : tie.Need-returns-3
 returns-3 c kept =
@@ -121,4 +117,4 @@ returns-4 c kept =
 pub find-teller-spec : {M : Type 1} → statement M
 find-teller-spec =
     tie.close
-    (tie.spec root-requires load-requires returns returns-2 load-requires-2 returns-3 returns-4)
+    (tie.spec root-requires read-requires returns returns-2 read-requires-2 returns-3 returns-4)

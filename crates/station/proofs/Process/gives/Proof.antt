@@ -12,8 +12,11 @@ clip-requires c κs = search needs
 ended-requires : tie.Need-ended-requires
 ended-requires c κs = search needs
 
+after-requires : tie.Need-after-requires
+after-requires c κs = search needs
+
 returns : tie.Need-returns
-returns c = rw (c .ended .ensures, c .before .clip .ensures, c .before .before .config .ensures)
+returns c = rw (c .after .ensures, c .before .ended .ensures, c .before .before .clip .ensures, c .before .before .before .config .ensures)
 
 pub gives-spec : {M : Type 1} → statement M
-gives-spec = tie.close (tie.spec config-requires clip-requires ended-requires returns)
+gives-spec = tie.close (tie.spec config-requires clip-requires ended-requires after-requires returns)
