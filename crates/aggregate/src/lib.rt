@@ -1,4 +1,6 @@
 // What a station has gathered, class by class, and how two of these are joined. The crates above look inside none of these records.
+#![tactic(auto)]
+
 ghost use Rattle.std.specs.Prelude.{◌≡◌, true, cond, ℕ, ◌<◌, max, min, eqb, get_or};
 ghost use Rattle.finite.specs.Numbers.{bytes};
 ghost use Rattle.aggregate.specs.Ways.{greatest, is_way, has_none, chosen_of, sum_joined, empty_sum};
@@ -7,7 +9,7 @@ ghost use Rattle.aggregate.specs.Aggregate.{joined, joinable, clipped, missing_w
 
 // What a net is opened with: the number of its stations, and of the classes that are counted, its desk, and its way of joining counts.
 #[repr(C)]
-#[derive(Drop)]
+#[derive(Clone, Copy)]
 pub struct Config {
     pub k: u8,
     pub classes: u8,
@@ -16,13 +18,13 @@ pub struct Config {
 }
 
 // What a station counted, class by class; the largest count stands for no reading.
-#[derive(Drop)]
+#[derive(Clone, Copy)]
 pub struct Reading {
     pub counts: [u32; 8],
 }
 
 // What is gathered of one class: counts, and how many had no reading.
-#[derive(Drop)]
+#[derive(Clone, Copy)]
 pub struct Cell {
     pub sum: u64,
     pub missing: u8,
@@ -30,14 +32,14 @@ pub struct Cell {
 
 // What a station has gathered, of itself and of the stations that answered it.
 #[repr(C)]
-#[derive(Drop)]
+#[derive(Clone, Copy)]
 pub struct Aggregate {
     pub sums: [u64; 8],
     pub missing: [u8; 8],
 }
 
 // Whether both of two aggregates were bounded, and their join.
-#[derive(Drop)]
+#[derive(Clone, Copy)]
 pub struct Joined {
     pub bounded: bool,
     pub held: Aggregate,

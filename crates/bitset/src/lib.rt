@@ -1,4 +1,6 @@
 // Sets of stations 0 to 63, held in 64 bits: bit j, worth 2^j, is station j.
+#![tactic(auto)]
+
 ghost use Rattle.std.specs.Prelude.{◌≡◌};
 ghost use Rattle.bitset.specs.Set;
 

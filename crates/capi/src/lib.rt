@@ -1,5 +1,7 @@
 // The library for C and for Rust (`rt staticlib capi`): every call on numbers, slices and records that the caller lends. include/tally.h
 // says what each takes, answers and leaves.
+#![tactic(auto)]
+
 mod mailbox_net;
 mod map;
 mod process;

@@ -14,7 +14,7 @@ use refusal::Refusal;
 use topology::{Fault, LinksAnswer, Verdict};
 
 // What a call on a lent map answers, as one number, and the map after it.
-#[derive(Drop)]
+#[derive(Clone, Copy)]
 pub struct Answered {
     pub answer: u64,
     pub map: Map,

@@ -11,7 +11,7 @@ use station::{Answer, Process, Reply};
 
 // What an answer or a report answers, as one number, and what it gives: nothing where it is refused.
 #[repr(C)]
-#[derive(Drop)]
+#[derive(Clone, Copy)]
 pub struct Given {
     pub answer: u64,
     pub held: Aggregate,

@@ -9,7 +9,7 @@ use schedule::{Answer, Ran, RunAnswer};
 
 // What a run answers: its number, with 1 where the net reached is quiescent (01: at rest), and the steps made.
 #[repr(C)]
-#[derive(Drop)]
+#[derive(Clone, Copy)]
 pub struct Run {
     pub answer: u64,
     pub steps: u64,

@@ -1,4 +1,6 @@
 // The line map and its stored form (document 01, "The line map"): read, accept, count links, write.
+#![tactic(auto)]
+
 ghost use Rattle.std.specs.Prelude.{◌≡◌, ◌≤◌, length};
 ghost use Rattle.topology.specs.Acceptance;
 ghost use Rattle.linemap.specs.Maps;
@@ -30,7 +32,7 @@ const PLACES: usize = 8;
 // A line map by value: the desk, the lot number, and each station's counts, one a class, and set of neighbours. The count of station i and class j
 // stands at place 8 × i + j. Places of stations past k and of classes past the class count hold zero after reading.
 #[repr(C)]
-#[derive(Drop)]
+#[derive(Clone, Copy)]
 pub struct Map {
     pub k: u8,
     pub classes: u8,
@@ -41,7 +43,7 @@ pub struct Map {
 }
 
 // Why no map is read.
-#[derive(Drop)]
+#[derive(Clone, Copy)]
 pub enum ReadFault {
     // Fewer bytes than a trailer has.
     Short,
@@ -54,21 +56,21 @@ pub enum ReadFault {
     Unfit(Fault),
 }
 
-#[derive(Drop)]
+#[derive(Clone, Copy)]
 pub enum ReadAnswer {
     Accepted,
     Refused(ReadFault),
 }
 
 // The answer, and the map, which is all zero after a refusal.
-#[derive(Drop)]
+#[derive(Clone, Copy)]
 pub struct MapRead {
     pub answer: ReadAnswer,
     pub map: Map,
 }
 
 // Why no map is written.
-#[derive(Drop)]
+#[derive(Clone, Copy)]
 pub enum WriteFault {
     Unfit(Fault),
     // The lot is too long for its bytes.
@@ -78,14 +80,14 @@ pub enum WriteFault {
 }
 
 // A map that was written fills so many bytes.
-#[derive(Drop)]
+#[derive(Clone, Copy)]
 pub enum WriteAnswer {
     Written(usize),
     Refused(WriteFault),
 }
 
 // Why no net is opened on a map.
-#[derive(Drop)]
+#[derive(Clone, Copy)]
 pub enum FreshFault {
     // The map is not accepted.
     Unfit(Fault),
@@ -93,7 +95,7 @@ pub enum FreshFault {
     Way,
 }
 
-#[derive(Drop)]
+#[derive(Clone, Copy)]
 pub enum FreshAnswer {
     Opened,
     Refused(FreshFault),

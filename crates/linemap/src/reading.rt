@@ -8,7 +8,7 @@ use crate::numbers::{get, sum_words};
 use crate::{Map, MapRead, ReadAnswer, ReadFault};
 use topology::{Fault, Verdict};
 
-#[derive(Drop)]
+#[derive(Clone, Copy)]
 pub(crate) enum TrailerRead {
     Fields {
         stations: u64,
@@ -22,7 +22,7 @@ pub(crate) enum TrailerRead {
 }
 
 // An enum holds no array: a row's counts are read from the place of its first byte.
-#[derive(Drop)]
+#[derive(Clone, Copy)]
 pub(crate) enum RowRead {
     Row { at: usize, set: u64 },
     // It starts before the lent bytes.

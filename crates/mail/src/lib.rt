@@ -2,6 +2,8 @@
 // receivers to which a start waits (words 0 to 63), the set of those to which an answer waits (64 to 127), then the missing numbers of the
 // answers, a byte a class (those from s to r at 128 + s × 64 + r), then their sums, class by class (of class j at 4224 + 4096 × j + s × 64 + r).
 // A mailbox itself is an enum: what is read from one place and written to one. An enum holds no array, so what an answer brings stands beside it.
+#![tactic(auto)]
+
 ghost use Rattle.std.specs.Prelude.{◌≡◌, ◌<◌, length, replicate};
 ghost use Rattle.mail.specs.Mail;
 ghost use Rattle.mail.specs.Writing;
@@ -9,14 +11,14 @@ ghost use Rattle.mail.specs.Writing;
 use aggregate::{Aggregate, Config};
 
 // What a station sends another.
-#[derive(Drop)]
+#[derive(Clone, Copy)]
 pub enum Message {
     Start,
     Answer,
 }
 
 // 01: a box.
-#[derive(Drop)]
+#[derive(Clone, Copy)]
 pub enum Mailbox {
     Empty,
     Full(Message),

@@ -1,5 +1,7 @@
 // Stations with mail (document 01, "Stations with mail"): a message waits in a mailbox until it is delivered. The words of stations and
 // mailboxes are lent, and no call copies them.
+#![tactic(auto)]
+
 ghost use Rattle.std.specs.Prelude.{◌≡◌, true, false, ◌||◌, ◌<◌, ◌≤◌, length, eqb};
 ghost use Rattle.finite.specs.Below.{all_below};
 ghost use Rattle.aggregate.specs.Aggregate.{root_of, bounded};

@@ -13,7 +13,7 @@ use schedule::rows::Sizes;
 use station::Station;
 
 // The stations that take a start, and those that take an answer.
-#[derive(Drop)]
+#[derive(Clone, Copy)]
 pub(crate) struct Takers {
     pub(crate) starts: u64,
     pub(crate) answers: u64,

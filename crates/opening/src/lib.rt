@@ -1,4 +1,6 @@
 // What the program's input opens: draws, then a map (document 01, "The program").
+#![tactic(auto)]
+
 ghost use Rattle.std.specs.Prelude.{◌≡◌, ◌<◌, get_or};
 ghost use Rattle.topology.specs.Acceptance.{fault_numbers};
 ghost use Rattle.linemap.specs.Reading.{read_fault_numbers};
@@ -13,7 +15,7 @@ use topology::Fault;
 pub const MOST_BYTES: usize = 65536;
 
 // Why nothing is opened.
-#[derive(Drop)]
+#[derive(Clone, Copy)]
 pub enum OpenFault {
     // More bytes than the program takes.
     TooLong,
@@ -23,14 +25,14 @@ pub enum OpenFault {
 }
 
 // The number of draws before the map.
-#[derive(Drop)]
+#[derive(Clone, Copy)]
 pub enum OpenAnswer {
     Opened(u16),
     Refused(OpenFault),
 }
 
 // The answer, and the map, which is all zero after a refusal.
-#[derive(Drop)]
+#[derive(Clone, Copy)]
 pub struct Opening {
     pub answer: OpenAnswer,
     pub map: Map,

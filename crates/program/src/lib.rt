@@ -1,5 +1,7 @@
 // The program (document 01, "The program"): draws and a map from standard input, a line a step to standard output. `put_output` gives the
 // bytes for an input, and `run` reads an input and writes them.
+#![tactic(auto)]
+
 mod streams;
 
 ghost use Rattle.std.specs.Prelude.{◌≡◌, List, ℕ, ◌+◌, ◌<◌, ◌≤◌, length};
@@ -24,7 +26,7 @@ use topology::LinksAnswer;
 pub const OUTPUT_ROOM: usize = 4034 * text::LINE_ROOM;
 
 // A line, and beside it what an answer or a report carries, of the classes in use under `config`.
-#[derive(Drop)]
+#[derive(Clone, Copy)]
 pub struct Shown {
     pub line: Line,
     pub config: Config,
@@ -32,7 +34,7 @@ pub struct Shown {
 }
 
 // How many steps were made, and the place after their lines.
-#[derive(Drop)]
+#[derive(Clone, Copy)]
 struct Steps {
     made: u16,
     end: usize,

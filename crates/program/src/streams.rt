@@ -14,7 +14,7 @@ const INPUT_ROOM: usize = opening::MOST_BYTES + 1;
 const TRIES: u64 = 18446744073709551615;
 
 // All of the input, so many bytes, or a read failed.
-#[derive(Drop)]
+#[derive(Clone, Copy)]
 pub enum Input {
     Whole(usize),
     Failed,

@@ -1,8 +1,10 @@
 // Why a station or a net refuses a call (document 01, "Causes and numbers").
+#![tactic(auto)]
+
 ghost use Rattle.std.specs.Prelude.{◌≡◌};
 ghost use Rattle.refusal.specs.Refusal.{number_of};
 
-#[derive(Drop)]
+#[derive(Clone, Copy)]
 pub enum Refusal {
     // The net or station is not well-formed (01: out of form).
     OutOfForm,

@@ -1,4 +1,6 @@
 // Stations that meet (document 01, "Stations that meet"): a start or an answer is sent and taken in one step.
+#![tactic(auto)]
+
 ghost use Rattle.std.specs.Prelude.{◌≡◌};
 ghost use Rattle.linemap.specs.Openings.{opening_of};
 ghost use Rattle.schedule.specs.Outcome.{step_outcome_of, run_outcome_of};

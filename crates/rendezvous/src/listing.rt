@@ -19,7 +19,7 @@ use schedule::rows::{Drawn, Sizes};
 use station::Station;
 
 // The stations that can take a start, and of these the ones that can take an answer.
-#[derive(Drop)]
+#[derive(Clone, Copy)]
 pub(crate) struct States {
     pub(crate) asleep: u64,
     pub(crate) active: u64,
@@ -36,7 +36,7 @@ fn restate(states: States, i: u8, state: u8) -> States
 }
 
 // What a station may send, in whichever state the receivers are: to whom a start, its parent if it may answer it, itself if it may report.
-#[derive(Drop)]
+#[derive(Clone, Copy)]
 pub(crate) struct Sends {
     pub(crate) starts: u64,
     pub(crate) home: u64,
@@ -110,7 +110,7 @@ pub(crate) fn renew(
 }
 
 // What a pass over all stations finds: whether the net is well-formed, and then the states.
-#[derive(Drop)]
+#[derive(Clone, Copy)]
 pub(crate) struct Findings {
     pub(crate) formed: bool,
     pub(crate) states: States,

@@ -1,4 +1,6 @@
 // What the calls of every kind of net share: a step, and what a step, a draw or a run gives. Listing, draws, runs and lists of calls are in specs/.
+#![tactic(auto)]
+
 ghost use Rattle.std.specs.Prelude.{◌≡◌, false};
 ghost use Rattle.refusal.specs.declared.Refusal.TheVariants.{OutOfForm};
 ghost use Rattle.schedule.specs.declared.RunAnswer.TheVariants as run;
@@ -8,7 +10,7 @@ use refusal::Refusal;
 pub mod rows;
 
 // A step of a net: its kind, counted from 1, its sender and its receiver.
-#[derive(Drop)]
+#[derive(Clone, Copy)]
 pub struct Step {
     pub kind: u8,
     pub sender: u8,
@@ -16,21 +18,21 @@ pub struct Step {
 }
 
 // What a single step or a draw answers: the step made, or why none was.
-#[derive(Drop)]
+#[derive(Clone, Copy)]
 pub enum Answer {
     Made(Step),
     Refused(Refusal),
 }
 
 // What a run answers.
-#[derive(Drop)]
+#[derive(Clone, Copy)]
 pub enum RunAnswer {
     Stopped,
     Refused(Refusal),
 }
 
 // What a run gives beside the net: its answer, the steps made, and whether the net reached is quiescent (01: at rest).
-#[derive(Drop)]
+#[derive(Clone, Copy)]
 pub struct Ran {
     pub answer: RunAnswer,
     pub steps: usize,

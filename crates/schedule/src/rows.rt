@@ -9,21 +9,21 @@ use bitset::contains;
 use std::num::{wrapping_add_u32, wrapping_sub_u32};
 
 // What a search for an entry of a list by its number finds: the entry, or, where the list is too short, how many entries are still to pass.
-#[derive(Drop)]
+#[derive(Clone, Copy)]
 pub(crate) enum Entry {
     At(Step),
     Beyond(u32),
 }
 
 // The step that a draw picks, where one is allowed.
-#[derive(Drop)]
+#[derive(Clone, Copy)]
 pub enum Drawn {
     Step(Step),
     Nothing,
 }
 
 // How many steps rows list, by kind: a sender has four rows, of kinds 1 to 4. A net that has a fifth kind has its rows beside them.
-#[derive(Drop)]
+#[derive(Clone, Copy)]
 pub struct Sizes {
     pub first: u32,
     pub second: u32,

@@ -1,5 +1,7 @@
 // The grower sheet (document 02, request 7): lines of 40 bytes for one reported lot, of its map and its net of stations that meet. It stands
 // above the library and uses its public calls alone.
+#![tactic(auto)]
+
 ghost use Rattle.std.specs.Prelude.{◌≡◌, ◌<◌};
 ghost use Rattle.finite.specs.Below.{each};
 ghost use Rattle.rendezvous.specs.Net.{net_in};
@@ -22,7 +24,7 @@ const LINE_LENGTH: usize = 41;
 const TOTAL_LIMIT: u64 = 1000000000000;
 
 // Why no sheet is laid out.
-#[derive(Drop)]
+#[derive(Clone, Copy)]
 pub enum SheetFault {
     // The map is not accepted.
     Unfit(Fault),
@@ -39,7 +41,7 @@ pub enum SheetFault {
 }
 
 // A sheet that was laid out fills so many bytes.
-#[derive(Drop)]
+#[derive(Clone, Copy)]
 pub enum SheetAnswer {
     Laid(usize),
     Refused(SheetFault),

@@ -1,4 +1,6 @@
 // One station (document 01, "One station"; document 001, Definition 3.1): what a net holds of it, and the station by itself.
+#![tactic(auto)]
+
 ghost use Rattle.std.specs.Prelude.{◌≡◌, true, cond, ◌-◌};
 ghost use Rattle.aggregate.specs.Aggregate.{joinable};
 ghost use Rattle.station.specs.Events;
@@ -17,7 +19,7 @@ pub const FINISHED: u8 = 2;
 
 // What a net holds of a station.
 #[repr(C)]
-#[derive(Drop)]
+#[derive(Clone, Copy)]
 pub struct Station {
     // What it has gathered (01: its sum).
     pub held: Aggregate,
@@ -31,7 +33,7 @@ pub struct Station {
 
 // A station by itself: the process of Definition 3.1.
 #[repr(C)]
-#[derive(Drop)]
+#[derive(Clone, Copy)]
 pub struct Process {
     pub own: u8,
     pub classes: u8,
@@ -40,7 +42,7 @@ pub struct Process {
     pub station: Station,
 }
 
-#[derive(Drop)]
+#[derive(Clone, Copy)]
 pub enum Answer {
     Done,
     // A sum, to the parent.
@@ -49,14 +51,14 @@ pub enum Answer {
 }
 
 // An answer, and what is given with it: nothing unless the answer is `Gives`.
-#[derive(Drop)]
+#[derive(Clone, Copy)]
 pub struct Reply {
     pub answer: Answer,
     pub given: Aggregate,
 }
 
 // A reply, and the process after the event.
-#[derive(Drop)]
+#[derive(Clone, Copy)]
 pub struct Event {
     pub reply: Reply,
     pub process: Process,

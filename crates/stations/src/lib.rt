@@ -1,4 +1,6 @@
 // The stations of a net of either kind (document 01, "Stations that meet"): 64 places, of which those below k are used.
+#![tactic(auto)]
+
 ghost use Rattle.std.specs.Prelude.{◌≡◌, ◌+◌, ◌<◌, ◌≤◌, length, set, replicate};
 ghost use Rattle.aggregate.specs.Aggregate.{nothing};
 ghost use Rattle.schedule.specs.Rules.{step_in_range};

@@ -1,4 +1,5 @@
 // The lot tally (document 01, "The program").
+#![tactic(auto)]
 
 fn main() {
     program::run();

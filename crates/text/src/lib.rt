@@ -1,4 +1,6 @@
 // The lines of the program's output, as bytes (document 01, "The program").
+#![tactic(auto)]
+
 ghost use Rattle.std.specs.Prelude.{◌≡◌, ◌++◌, length};
 ghost use Rattle.text.specs.Text.{digits, padded, item, cell_text, aggregate_text, words_of, text_in};
 ghost use Rattle.finite.specs.Stores.{over, laid, laid_end};
@@ -7,7 +9,7 @@ ghost use Rattle.finite.specs.Internal.Putting.{Room, Put};
 use aggregate::{Aggregate, Cell, Config};
 
 // What an answer or a report carries stands beside its line: an enum holds no array.
-#[derive(Drop)]
+#[derive(Clone, Copy)]
 pub enum Line {
     // Sender and receiver.
     Wake(u8, u8),

@@ -1,4 +1,6 @@
 // Acceptance of a line map's sets of neighbours, and the number of its links (document 01, "The line map").
+#![tactic(auto)]
+
 ghost use Rattle.std.specs.Prelude.{◌≡◌, true, ◌<◌, ◌≤◌};
 ghost use Rattle.finite.specs.Links;
 ghost use Rattle.bitset.specs.Set;
@@ -11,7 +13,7 @@ use bitset::{bit_if, contains, is_within, size};
 mod matrix;
 
 // Why a map is refused; a case holds the lowest offender.
-#[derive(Drop)]
+#[derive(Clone, Copy)]
 pub enum Fault {
     // A line map's class count is not 1 to 8. No set shows it: the answers here have no such case.
     Classes,
@@ -28,20 +30,20 @@ pub enum Fault {
     Apart(u8),
 }
 
-#[derive(Drop)]
+#[derive(Clone, Copy)]
 pub enum Verdict {
     Accepted,
     Refused(Fault),
 }
 
-#[derive(Drop)]
+#[derive(Clone, Copy)]
 pub enum LinksAnswer {
     Counted(u32),
     Refused(Fault),
 }
 
 // The rules over all stations; the last holds the set of those that a chain joins to the root.
-#[derive(Drop)]
+#[derive(Clone, Copy)]
 enum Rule {
     Beyond,
     Itself,

@@ -3,7 +3,7 @@
 ghost use Rattle.std.specs.Prelude.{◌≡◌, ◌<◌, length};
 ghost use Rattle.topology.specs.Internal.Matrix;
 
-#[derive(Drop)]
+#[derive(Clone, Copy)]
 pub(crate) struct Square {
     pub(crate) rows: [u64; 64],
 }
