@@ -12,14 +12,7 @@ use Rattle.finite.proofs.Digits.{power_more}
 use Rattle.aggregate.specs.Aggregate.{missing_word}
 use borrow.Author.Rules.{rules}
 use native.Mathlib.Omega.{arith}
-use Rattle.aggregate.proofs.missing_word.Statement.{statement}
-use Rattle.aggregate.proofs.missing_word.Tie as tie
-
-abbrev invariant-loop : tie.invariant-loop
-invariant-loop a word₀ i₀ word i = (i ≤ 8) × (word ≡ number a.missing i (8 - i)) × (word < 2 ^ (8 * (8 - i))) × (bytes (8 - i) word ≡ drop i a.missing)
-
-abbrev decreases-loop : tie.decreases-loop
-decreases-loop a word₀ i₀ word i = i
+use Rattle.aggregate.proofs.missing_word.Goals as goal
 
 -- the byte below those read
 byte_below : (s : List ℕ) (i : ℕ) → 0 < i → i ≤ 8 → number s (i - 1) (8 - (i - 1)) ≡ get_or s (i - 1) 0 + 2 ^ 8 * number s i (8 - i)
@@ -44,42 +37,30 @@ again_below s i b w some few long byte e again =
     ∙ ap (λ (l : List ℕ). get_or s (i - 1) 0 ∷ l) (again ∙ ap (λ (n : ℕ). drop n s) (sym next))
     ∙ sym (drop-cons s (i - 1) 0 (omega arith))
 
-loop-holds : tie.Need-loop-init invariant-loop decreases-loop
+pub loop-i-init : goal.loop-i-init
 unfolding number bytes
-loop-holds c =
-    let missing = c.args.t1.missing in
-    let long : length missing ≡ 8 = sym (length-map missing (λ n. n)) ∙ c.well-formed.0.1.1.1.0.1.0.1 in
+loop-i-init c =
+    let missing = c.args.a.missing in
+    let long : length missing ≡ 8 = c.well_formed.0.1.1.1.0.1.0.1 in
     (omega arith, refl, lit< tt, sym (ap (λ (n : ℕ). drop n missing) (sym long) ∙ drop-length missing))
 
-sub-i : tie.Need-overflow-sub-i invariant-loop decreases-loop
-sub-i c = search rules
-
-element-copy-out-wide : tie.Need-element-copy-out-wide invariant-loop decreases-loop
-element-copy-out-wide c = search rules
-
-wide-requires : tie.Need-wide-requires invariant-loop decreases-loop
-wide-requires c κs = search rules
-
-mul-word : tie.Need-overflow-mul-word invariant-loop decreases-loop
-mul-word c =
-    let l = c.before.before.before.loop in
+pub overflow_mul-word : goal.overflow_mul-word
+overflow_mul-word c =
+    let l = c.loop-i in
     let least = pow_mono {i = 8 * (8 - l.i)} {j = 56} (omega arith) in
     omega (arith, l.invariant.2)
 
-add-word : tie.Need-overflow-add-word invariant-loop decreases-loop
-add-word c =
-    let l = c.before.before.before.loop in
+pub overflow_add-word : goal.overflow_add-word
+overflow_add-word c =
+    let l = c.loop-i in
     let least = pow_mono {i = 8 * (8 - l.i)} {j = 56} (omega arith) in
     omega (arith, l.invariant.2, c.wide.ensures.1)
 
-loop-less : tie.Need-loop-smaller invariant-loop decreases-loop
-loop-less c = search rules
-
-loop-again : tie.Need-loop-preserved invariant-loop decreases-loop
-loop-again c =
-    let a = c.before.before.before.before.args.t1 in
-    let l = c.before.before.before.loop in
-    let long : length a.missing ≡ 8 = sym (length-map a.missing (λ n. n)) ∙ c.before.before.before.before.well-formed.0.1.1.1.0.1.0.1 in
+pub loop-i-preserved : goal.loop-i-preserved
+loop-i-preserved c =
+    let a = c.args.a in
+    let l = c.loop-i in
+    let long : length a.missing ≡ 8 = c.well_formed.0.1.1.1.0.1.0.1 in
     let some : 0 < l.i = omega arith in
     let more : 8 - (l.i - 1) ≡ suc (8 - l.i) = omega arith in (
       omega arith,
@@ -88,25 +69,9 @@ loop-again c =
       again_below a.missing l.i c.wide.result l.word some (omega arith) long c.wide.ensures.1 c.wide.ensures.0 l.invariant.3,
     )
 
-returns : tie.Need-returns invariant-loop decreases-loop
+pub returns : goal.returns
 unfolding missing_word
 returns c =
-    let l = c.before.loop in
+    let l = c.loop-i in
     let none : l.i ≡ 0 = omega arith in
-    (rw none at l.invariant.1, rw none at l.invariant.3)
-
-pub missing-word-spec : {M : Type 1} → statement M
-missing-word-spec =
-    tie.close
-    (tie.spec
-    invariant-loop
-    decreases-loop
-    loop-holds
-    sub-i
-    element-copy-out-wide
-    wide-requires
-    mul-word
-    add-word
-    loop-less
-    loop-again
-    returns)
+    record { word = rw none at l.invariant.1; again = rw none at l.invariant.3 }

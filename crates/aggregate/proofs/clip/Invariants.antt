@@ -1,0 +1,14 @@
+-- `aggregate::clip` meets its contract: class by class, the cell is stored over zeros. Assumes nothing.
+use mathlib.Core.Path.{◌≡◌, refl}
+use Prim.Native.Nat.{◌≤◌, ◌-◌, min}
+use lib.ListN.{replicate, get_or-replicate}
+use Rattle.aggregate.specs.Aggregate.{cell, zero_cell, clipped}
+use Rattle.aggregate.proofs.Places.{Storing, storing_none, storing_more, storing_all}
+use native.Mathlib.Omega.{arith}
+use Rattle.aggregate.proofs.clip.Given as goal
+
+abbrev pub invariant-loop-i : goal.invariant-loop-i
+invariant-loop-i l = (l.i ≤ l.c) × Storing (cell l.a) (replicate 8 0) (replicate 8 0) l.sums l.missing l.i
+
+abbrev pub decreases-loop-i : goal.decreases-loop-i
+decreases-loop-i l = l.c - l.i
