@@ -4,7 +4,7 @@ use mathlib.Core.Path.{◌≡◌, refl, sym, subst, ap}
 use mathlib.Core.List.{List, [], ◌∷◌, ◌++◌}
 use Prim.Native.Nat.{ℕ, zero, suc}
 use seplogic.Ra.Ura.{Ura}
-use seplogic.Ra.TreeShare.{full_share}
+use base.Fraction.{full_share}
 use mir.Syntax.{Ty, Local, local, value_local, Opd, copy, place, Step as PStep}
 use mir.Val.{Val}
 use base.Logic as logic
@@ -80,9 +80,11 @@ module _ {m : ℕ} where
     mir = N.mir ∷ [];
     written = N.written;
     reaches = N.reaches;
-    own_val = (N.row κs.1).own;
+    lives = (N.row κs.1).lives;
+    own_val = (N.row κs.1).own_val;
     exit = (N.row κs.1).exit;
     coded = (N.row κs.1).coded;
+    shr_at = (N.row κs.1).shr_at;
   }
 
   abbrev pub lents : List (Argument m) → List (Slot (suc m))
@@ -187,7 +189,7 @@ module _ {m : ℕ} {M : Type 1} {𝓤 : Ura M} (𝓛 : Logic 𝓤) where
       → ent 𝓤 (sem 𝓛 (owns (types_at (lents Ns) κs) a (lent_vals Ns κs a)))
       (sem 𝓛 (owns (types_at (values Ns) κs.1) (handed Ns κs a) (handed-vals Ns κs a)))
   own_handed [] κs a = id⊢ 𝓤 (emp 𝓤)
-  own_handed (N ∷ Ns) κs a = mono_r 𝓤 (sem 𝓛 ((N.row κs.1).own a.0 (N.val κs.1 a.0 ∷ []))) (own_handed Ns κs a.1)
+  own_handed (N ∷ Ns) κs a = mono_r 𝓤 (sem 𝓛 ((N.row κs.1).own_val a.0 (N.val κs.1 a.0 ∷ []))) (own_handed Ns κs a.1)
 
   pub had_lasts : (Ns : List (Argument m)) (κs : Lfts (suc m)) (a : Values Ns κs) (ws : Lasts Ns κs.1 (handed Ns κs a))
       (vss : Valss (types_at (lents Ns) κs))

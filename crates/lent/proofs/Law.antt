@@ -2,14 +2,15 @@
 --     let before = *s; let event = EVENT(before, x ..); *s = event.after; event.answer
 -- over a function by value that promises something of what it is passed, of what that holds at exit, of the answer and of the record
 -- after the event promises the same of the record that it leaves behind the reference.
--- The walk is by hand: the borrow is opened, the record copied out and passed on, the event's record stored over it, the borrow closed.
+-- The walk is by hand: the borrow is opened, the record copied out and passed on, the event's record copied out and stored over it, the
+-- borrow closed.
 -- Assumes nothing.
 use mathlib.Core.Path.{◌≡◌, refl, subst, ap}
 use mathlib.Core.List.{List, [], ◌∷◌, ◌++◌}
 use Prim.Native.Nat.{ℕ, suc}
 use seplogic.Ra.Ura.{Ura}
-use seplogic.Ra.TreeShare.{full_share}
-use mir.Syntax.{Name, Fn, Local, local, value_local, Body, named, mut, ty_ref, place, deref, field, copy, assign, rv_opd, call, seq, return}
+use base.Fraction.{full_share}
+use mir.Syntax.{Callee, Fn, Local, local, value_local, Body, named, mut, ty_ref, place, deref, field, copy, assign, rv_opd, call, seq, return}
 use mir.Val.{Val, vptr}
 use base.Logic.{SProp, ent, sep, emp, via, fst∗, id⊢}
 use base.Fml.{GName, Fml, fsep, fat, flft, fobs, fbor}
@@ -75,27 +76,34 @@ module _ {m : ℕ} (L : Lending m) where
   abbrev Lent : Ended
   Lent = Contract.Lent S L.answer Ns
 
-  -- the places of the record's copy and of the event, which stand after the arguments
+  -- the places of the record's copy, of the event and of the record on its way back, which stand after the arguments
   abbrev copied : ℕ
   copied = suc (suc (past Ns 0))
 
   abbrev happened : ℕ
   happened = suc (suc (past Ns 1))
 
-  abbrev after_them : List Local
-  after_them = local (the_mir S) value_local ∷ local (pair_mir S L.answer L.event.name) value_local ∷ []
+  abbrev returning : ℕ
+  returning = suc (suc (past Ns 2))
 
-  abbrev statements : Name → Body
+  abbrev after_them : List Local
+  after_them =
+      local (the_mir S) value_local ∷ local (pair_mir S L.answer L.event.name) value_local ∷ local (the_mir S) value_local ∷ []
+
+  abbrev statements : Callee → Body
   statements g =
       seq (assign (place copied []) (rv_opd (copy (place 1 (deref (the_mir S) ∷ [])))))
       (seq (call g (copy (place copied []) ∷ copies (λ j. suc (suc j)) Ns) (place happened []))
-      (seq (assign (place 1 (deref (the_mir S) ∷ [])) (rv_opd (copy (place happened (field 1 ∷ [])))))
-      (seq (assign (place 0 []) (rv_opd (copy (place happened (field 0 ∷ []))))) return)))
+      (seq (assign (place returning []) (rv_opd (copy (place happened (field 1 ∷ [])))))
+      (seq (assign (place 1 (deref (the_mir S) ∷ [])) (rv_opd (copy (place returning []))))
+      (seq (assign (place 0 []) (rv_opd (copy (place happened (field 0 ∷ []))))) return))))
 
-  abbrev function : Name → Fn
+  abbrev function : Callee → Fn
   function g = record {
     lifetimes = suc m;
     outlives = [];
+    ty_params = [];
+    givens = 0;
     params = suc (past Ns 0);
     locals = local L.answer.mir value_local ∷ local (ty_ref (named 0) mut (pointee (the_row S).written)) value_local ∷ (locals Ns ++ after_them);
     body = statements g;
@@ -193,7 +201,7 @@ module _ {M : Type 1} {𝓤 : Ura M} (𝓛 : Logic 𝓤) {m : ℕ} (L : Lending 
       use1 𝓛 (‵ (owns (types_at (values (Ns L)) κs.1) (handed (Ns L) κs a) (handed-vals (Ns L) κs a))) (own_handed 𝓛 (Ns L) κs a) $
       move ! (1 ∷ 0 ∷ []) $ fjoin ! $ move ! (1 ∷ 0 ∷ []) $ join ! $ frame ! $ nothing ! $ done !
 
-  module _ (C : Calls 𝓤 H) (Λ : Loops 𝓤 H) (fm : FmC 𝓤 H 𝓛.laws C) (g : Name) (met : Triple 𝓤 (C g) (G 𝓛 L))
+  module _ (C : Calls 𝓤 H) (Λ : Loops 𝓤 H) (fm : FmC 𝓤 H 𝓛.laws C) (g : Callee) (met : Triple 𝓤 (C g) (G 𝓛 L))
       (are : Are (types_at (lents (Ns L)) κs) (Ises (types_at (lents (Ns L)) κs)) a vals) where
     walk : ent 𝓤 (on_entry 𝓛 (Lent L).signature κs qs x at) (WpFn 𝓤 H C Λ (function L g) all_vals Post)
     walk =
@@ -201,22 +209,22 @@ module _ {M : Type 1} {𝓤 : Ura M} (𝓛 : Logic 𝓤) {m : ℕ} (L : Lending 
         split ! $ move ! (2 ∷ []) $ fsplit ! $ fsplit3 ! $ drop ! $ move ! (0 ∷ 1 ∷ 3 ∷ []) $
         -- [what is seen; the borrow; its token; what the arguments own; their tokens]
         enter ! C Λ (function L g) all_vals _ $ alloc1 ! (λ l₀. alloc1 ! (λ l₁. allocated 𝓛 (Ns L) (λ bs. alloc1 ! (λ l₂. alloc1 ! (λ l₃.
-        alloc0 ! $ params1 ! $ pass1 ! (init ! 5 refl (tt, tt)) $ move ! (4 ∷ []) $ passed 𝓛 (Ns L) bs κs a are (pass0 ! $
-        let after : Env 𝓤 H = (the_mir R, l₂) ∷ (pair_mir R L.answer L.event.name, l₃) ∷ [] in
+        alloc1 ! (λ l₄. alloc0 ! $ params1 ! $ pass1 ! (init ! 7 refl (tt, tt)) $ move ! (6 ∷ []) $ passed 𝓛 (Ns L) bs κs a are (pass0 ! $
+        let after : Env 𝓤 H = (the_mir R, l₂) ∷ (pair_mir R L.answer L.event.name, l₃) ∷ (the_mir R, l₄) ∷ [] in
         let past-them : (j : ℕ) → _ = spot_past 𝓛 (Ns L) bs after in
-        move ! (9 ∷ 10 ∷ 11 ∷ []) $ opens ! tt (the_row R) {h = h} b o (λ vs.
+        move ! (11 ∷ 12 ∷ 13 ∷ []) $ opens ! tt (the_row R) {h = h} b o (λ vs.
         spelt ! (the_row R) (Is (the_row R)) (shows 𝓛 (the_row R)) (LL.vals R.type R.laws)
         (LL.tells R.type R.laws) full_share h vs b o $
         move ! (1 ∷ []) $ peeks ! (the_row R) (Is (the_row R)) (shows 𝓛 (the_row R)) h (the_val R h ∷ []) (λ was. move ! (1 ∷ 0 ∷ []) $
-        -- [the record's cell; what it owns; the open borrow; what is seen; auth; the arguments; room for the event; …; for the copy; …;
-        -- the reference; …; room for the answer; …; what the arguments own; their tokens]
-        assigns ! (of_opd ! (load ! (from ! (hop ! (look ! 10 refl) (stop !))) (look_raw ! 0 refl))) (local_at (past-them 0) (stop !))
-        (init ! 8 refl ((LL.lawful R.type R.laws 𝓛).typed h _ was).0) $
-        move ! (1 ∷ 14 ∷ 15 ∷ []) $ use3 𝓛 (raw ((G 𝓛 L).pre to_g)) goes_g $
-        -- [what the callee asks; the record's cell; the open borrow; what is seen; auth; the arguments; room for the event; …; the copy; …;
-        -- the reference; …; room for the answer; …]
+        -- [the record's cell; what it owns; the open borrow; what is seen; auth; the arguments; room for the record on its way back; …;
+        -- for the event; …; for the copy; …; the reference; …; room for the answer; …; what the arguments own; their tokens]
+        assigns ! (of_opd ! (load ! (from ! (hop ! (look ! 12 refl) (stop !))) (look_raw ! 0 refl))) (local_at (past-them 0) (stop !))
+        (init ! 10 refl ((LL.lawful R.type R.laws 𝓛).typed h _ was).0) $
+        move ! (1 ∷ 16 ∷ 17 ∷ []) $ use3 𝓛 (raw ((G 𝓛 L).pre to_g)) goes_g $
+        -- [what the callee asks; the record's cell; the open borrow; what is seen; auth; the arguments; room for the record on its way back; …;
+        -- for the event; …; the copy; …; the reference; …; room for the answer; …]
         calls_at ! fm (G 𝓛 L) met to_g
-        (and_then ! (load ! (local_at (past-them 0) (stop !)) (look ! 8 refl))
+        (and_then ! (load ! (local_at (past-them 0) (stop !)) (look ! 10 refl))
         (operands 𝓛 (Ns L) bs κs a after (λ j. suc (suc j)) (λ j. refl) (λ q τ c d v back p. look_in ! 5 p))) (λ v.
         use1 𝓛 (later (some (λ (r : L.event.row.Denot). (raw Rest ⊛ ‵ (L.event.row.own_val r (v ∷ [])))
         ⊛ some (λ (ws : Last ((the_row R).exit yes) h × Last-ones).
@@ -225,25 +233,27 @@ module _ {M : Type 1} {𝓤 : Ura M} (𝓛 : Logic 𝓤) {m : ℕ} (L : Lending 
         heard ! (Known ws.1 r) (λ known. move ! (1 ∷ []) $ split ! $ move ! (1 ∷ []) $
         peeks ! L.event.row (Is L.event.row) (shows 𝓛 L.event.row) r (v ∷ []) (λ is.
         -- [what the event owns; the arguments' tokens; what is left of them; the record's cell; the open borrow; what is seen; auth;
-        -- the arguments; room for the event; …; the copy; …; the reference; …; room for the answer; …]
-        land ! (local_at (past-them 1) (stop !)) (init ! 8 refl (L.event.typed 𝓛 r v is)) $
-        rewrite ! 8 (λ (u : Val). ‵ (fat full_share (pair_mir R L.answer L.event.name) l₃ 0 u)) (ap only (L.event.tells r (v ∷ []) is)) refl $
-        assigns ! (of_opd ! (load ! (local_at (past-them 1) (fld ! refl (stop !))) (look_in ! 8 (sub ! 1 refl (whole !)))))
-        (from ! (hop ! (look ! 12 refl) (stop !)))
+        -- the arguments; room for the record on its way back; …; for the event; …; the copy; …; the reference; …; room for the answer; …]
+        land ! (local_at (past-them 1) (stop !)) (init ! 10 refl (L.event.typed 𝓛 r v is)) $
+        rewrite ! 10 (λ (u : Val). ‵ (fat full_share (pair_mir R L.answer L.event.name) l₃ 0 u)) (ap only (L.event.tells r (v ∷ []) is)) refl $
+        assigns ! (of_opd ! (load ! (local_at (past-them 1) (fld ! refl (stop !))) (look_in ! 10 (sub ! 1 refl (whole !)))))
+        (local_at (past-them 2) (stop !))
+        (init ! 8 refl ((LL.lawful R.type R.laws 𝓛).typed (L.event.after r) _ (L.event.is-after r _ is)).0) $
+        assigns ! (of_opd ! (load ! (local_at (past-them 2) (stop !)) (look ! 8 refl))) (from ! (hop ! (look ! 14 refl) (stop !)))
         (store_raw ! 3 refl ((LL.lawful R.type R.laws 𝓛).typed (L.event.after r) _ (L.event.is-after r _ is)).0) $
-        assigns ! (of_opd ! (load ! (local_at (past-them 1) (fld ! refl (stop !))) (look_in ! 8 (sub ! 0 refl (whole !)))))
+        assigns ! (of_opd ! (load ! (local_at (past-them 1) (fld ! refl (stop !))) (look_in ! 10 (sub ! 0 refl (whole !)))))
         (from ! (stop !))
-        (init ! 14 refl (L.answer.typed 𝓛 (L.event.answer r) _ (L.event.is_an_answer r _ is))) $
+        (init ! 16 refl (L.answer.typed 𝓛 (L.event.answer r) _ (L.event.is_an_answer r _ is))) $
         drop ! $ owned ! (the_row R) (Is (the_row R)) (LL.makes R.type R.plain 𝓛) (L.event.after r) _ (L.event.is-after r _ is) $
         move ! (3 ∷ 0 ∷ 4 ∷ 5 ∷ 6 ∷ []) $ closes ! tt (the_row R) (L.event.after r) (the_val R (L.event.after r) ∷ []) b o $
-        -- [what is seen; the borrow; its token; the arguments' tokens; what is left of them; the arguments; the event; …; the copy; …;
-        -- the reference; …; the answer; …]
-        returns ! (look ! 12 refl) $ forget ! 6 refl $ forget ! 8 refl $ forget ! 10 refl $ forget ! 12 refl $
-        move ! (12 ∷ 13 ∷ []) $ free1 ! $ move ! (10 ∷ 11 ∷ []) $ free1 ! $ move ! (5 ∷ []) $
-        freed 𝓛 (Ns L) bs κs a (move ! (7 ∷ 8 ∷ []) $ free1 ! $ move ! (5 ∷ 6 ∷ []) $ free1 ! $ free0 ! $
-        by ! (exits ws.1 r (v ∷ []) is known)))))))))))))))
+        -- [what is seen; the borrow; its token; the arguments' tokens; what is left of them; the arguments; the record on its way back; …;
+        -- the event; …; the copy; …; the reference; …; the answer; …]
+        returns ! (look ! 14 refl) $ forget ! 6 refl $ forget ! 8 refl $ forget ! 10 refl $ forget ! 12 refl $ forget ! 14 refl $
+        move ! (14 ∷ 15 ∷ []) $ free1 ! $ move ! (12 ∷ 13 ∷ []) $ free1 ! $ move ! (5 ∷ []) $
+        freed 𝓛 (Ns L) bs κs a (move ! (9 ∷ 10 ∷ []) $ free1 ! $ move ! (7 ∷ 8 ∷ []) $ free1 ! $ move ! (5 ∷ 6 ∷ []) $ free1 ! $ free0 ! $
+        by ! (exits ws.1 r (v ∷ []) is known))))))))))))))))
 
-module _ {M : Type 1} {𝓤 : Ura M} (𝓛 : Logic 𝓤) {m : ℕ} (L : Lending m) (g : Name) where
+module _ {M : Type 1} {𝓤 : Ura M} (𝓛 : Logic 𝓤) {m : ℕ} (L : Lending m) (g : Callee) where
   open 𝓛 use {H}
 
   walks : (C : Calls 𝓤 H) (Λ : Loops 𝓤 H) → FmC 𝓤 H 𝓛.laws C → Triple 𝓤 (C g) (G 𝓛 L)
@@ -264,7 +274,7 @@ module _ {M : Type 1} {𝓤 : Ura M} (𝓛 : Logic 𝓤) {m : ℕ} (L : Lending 
 module _ {M : Type 1} {𝓤 : Ura M} (𝓛 : Logic 𝓤) (𝓜 : Model 𝓤 𝓛.H) (𝓡 : Running 𝓤 𝓛.H 𝓜) {m : ℕ} (L : Lending m) where
   open 𝓛 use {H}
 
-  pub proved : (γ : Routines) (f g : Name) (callee : Routine)
+  pub proved : (γ : Routines) (f g : Callee) (callee : Routine)
       → Closed 𝓤 H (tables 𝓤 H 𝓜 𝓡 γ).C (tables 𝓤 H 𝓜 𝓡 γ).Λ f (function L g)
       → γ g ≡ callee
       → Meets 𝓛 (Value L).signature (𝓡.run callee) (closing 𝓛 (Value L) (by_value L 𝓤))

@@ -6,7 +6,7 @@ use mathlib.Core.Path.{◌≡◌, refl}
 use mathlib.Core.List.{List, [], ◌∷◌, ◌++◌}
 use Prim.Native.Nat.{ℕ, suc}
 use seplogic.Ra.Ura.{Ura}
-use mir.Syntax.{Name, Fn, local, value_local, Body, named, erased, mut, ty_ref, place, deref, copy, assign, addr_of, call, seq, return}
+use mir.Syntax.{Callee, Fn, local, value_local, Body, named, erased, mut, ty_ref, place, deref, copy, assign, addr_of, call, seq, return}
 use mir.Val.{Val, vptr}
 use base.Logic.{SProp, ent, sep, ex, emp, via, fst∗, id⊢}
 use base.Fml.{GName, Fml}
@@ -82,16 +82,18 @@ module _ {m : ℕ} (P : Passing m) where
   abbrev passed_on : ℕ
   passed_on = suc (suc (past Ns 1))
 
-  abbrev statements : Name → Name → Body
+  abbrev statements : Callee → Callee → Body
   statements f g =
       seq (assign (place passed_on []) (addr_of (place 1 (deref (the_mir S) ∷ []))))
       (seq (call f (copy (place passed_on []) ∷ copies (λ j. suc (suc j)) Ns) (place replied []))
       (seq (call g (copy (place replied []) ∷ []) (place 0 [])) return))
 
-  abbrev function : Name → Name → Fn
+  abbrev function : Callee → Callee → Fn
   function f g = record {
     lifetimes = suc m;
     outlives = [];
+    ty_params = [];
+    givens = 0;
     params = suc (past Ns 0);
     locals =
         local P.answer.mir value_local ∷ local (ty_ref (named 0) mut (pointee (the_row S).written)) value_local
@@ -183,7 +185,7 @@ module _ {M : Type 1} {𝓤 : Ura M} (𝓛 : Logic 𝓤) {m : ℕ} (P : Passing 
       Said : P.answer.row.Denot → Last-ones → SProp 𝓤
       Said y' ws' = sep 𝓤 (sem 𝓛 (Leaves ws')) (fact 𝓤 (Promises y' ws'))
 
-  module _ (C : Calls 𝓤 H) (Λ : Loops 𝓤 H) (fm : FmC 𝓤 H 𝓛.laws C) (f g : Name)
+  module _ (C : Calls 𝓤 H) (Λ : Loops 𝓤 H) (fm : FmC 𝓤 H 𝓛.laws C) (f g : Callee)
       (met-f : Triple 𝓤 (C f) (F 𝓛 P)) (met-g : Triple 𝓤 (C g) (G 𝓛 P))
       (are : Are (types_at (lents (Ns P)) κs) (Ises (types_at (lents (Ns P)) κs)) a (lent_vals (Ns P) κs a)) where
     walk : ent 𝓤 Entry (WpFn 𝓤 H C Λ (function P f g) all_vals ((T 𝓛 P).post to_f))
@@ -220,7 +222,7 @@ module _ {M : Type 1} {𝓤 : Ura M} (𝓛 : Logic 𝓤) {m : ℕ} (P : Passing 
         freed 𝓛 (Ns P) bs κs a (move ! (5 ∷ 6 ∷ []) $ free1 ! $ move ! (3 ∷ 4 ∷ []) $ free1 ! $ free0 ! $
         by ! (exits y u ws (P.together κs.1 (handed (Ns P) κs a) _ h r ws.0 y replied answered)))))))))))))))))))
 
-module _ {M : Type 1} {𝓤 : Ura M} (𝓛 : Logic 𝓤) {m : ℕ} (P : Passing m) (f g : Name) where
+module _ {M : Type 1} {𝓤 : Ura M} (𝓛 : Logic 𝓤) {m : ℕ} (P : Passing m) (f g : Callee) where
   open 𝓛 use {H}
 
   meets : (C : Calls 𝓤 H) (Λ : Loops 𝓤 H) → FmC 𝓤 H 𝓛.laws C → Triple 𝓤 (C f) (F 𝓛 P) → Triple 𝓤 (C g) (G 𝓛 P)
@@ -238,7 +240,7 @@ module _ {M : Type 1} {𝓤 : Ura M} (𝓛 : Logic 𝓤) {m : ℕ} (P : Passing 
 module _ {M : Type 1} {𝓤 : Ura M} (𝓛 : Logic 𝓤) (𝓜 : Model 𝓤 𝓛.H) (𝓡 : Running 𝓤 𝓛.H 𝓜) {m : ℕ} (P : Passing m) where
   open 𝓛 use {H}
 
-  pub passing_proved : (env : Routines) (k f g : Name) (lent by_value : Routine)
+  pub passing_proved : (env : Routines) (k f g : Callee) (lent by_value : Routine)
       → Closed 𝓤 H (tables 𝓤 H 𝓜 𝓡 env).C (tables 𝓤 H 𝓜 𝓡 env).Λ k (function P f g)
       → env f ≡ lent
       → Meets 𝓛 (First P).signature (𝓡.run lent) (closing 𝓛 (First P) (first P 𝓤))

@@ -1,2 +1,1 @@
 // Laws only: no code.
-#![tactic(auto)]

@@ -2,4 +2,3 @@ pub mod Formed
 pub mod Outcomes
 pub mod Laws
 pub mod Examples
-pub mod Lent

@@ -15,8 +15,7 @@ use Rattle.station.specs.Process.{done, after, decide, take_answer}
 use Rattle.station.proofs.Formed.{facts}
 use Rattle.station.proofs.Outcomes.{decide_agree}
 use Rattle.station.proofs.Laws.{station_formed}
-use Rattle.station.proofs.Process.take_answer.Statement.{statement}
-use Rattle.station.proofs.Process.take_answer.Tie as tie
+use Rattle.station.proofs.Process.take_answer.Goals as goal
 
 -- in form what is held is bounded: the join's own test is that of the range, and where it is passed the join is the rules'
 tested : (v : Aggregate) (p : Process) → well_formed_process p ≡ true
@@ -36,50 +35,13 @@ tested v p formed =
     rw (formed, (facts (process_config p) p.own p.station (station_formed p formed)).held-bounded)
     (decide_agree _ _ _ p _ _ (λ f r. rw r))
 
-is-well-formed-requires : tie.Need-is-well-formed-requires
-is-well-formed-requires c κs = search rules
-
-refused-requires : tie.Need-refused-requires
-refused-requires c κs = search rules
-
-returns : tie.Need-returns
+pub returns-then-not-is_well_formed : goal.returns-then-not-is_well_formed
 unfolding take_answer decide
-returns c = rw (sym c.before.before.is-well-formed.ensures ∙ not-true _ c.before.if1.true) c.refused.ensures
+returns-then-not-is_well_formed c = rw (sym c.is_well_formed.ensures ∙ not-true _ c.if-not-is_well_formed.true-raw) c.refused.ensures
 
-config-requires : tie.Need-config-requires
-config-requires c κs = search rules
-
-join-requires : tie.Need-join-requires
-join-requires c κs = search rules
-
-holding-requires : tie.Need-holding-requires
-holding-requires c κs = search rules
-
-done-requires : tie.Need-done-requires
-done-requires c κs = search rules
-
-decide-requires : tie.Need-decide-requires
-decide-requires c κs = search rules
-
-returns-2 : tie.Need-returns-2
-returns-2 c =
-    let join = c.before.before.before.before.before.join in
-    let config = c.before.before.before.before.before.before.before.before in
-    let test = config.before.before in
-    let args = test.before.args in
-    (rw (c.before.done.ensures, c.before.before.holding.ensures, join.ensures.0, join.ensures.1, config.config.ensures) at c.decide.ensures)
-    ∙ tested args.v args.self (sym test.is-well-formed.ensures ∙ not-false _ config.before.if1.false)
-
-pub take-answer-spec : {M : Type 1} → statement M
-take-answer-spec =
-    tie.close
-    (tie.spec
-    is-well-formed-requires
-    refused-requires
-    returns
-    config-requires
-    join-requires
-    holding-requires
-    done-requires
-    decide-requires
-    returns-2)
+pub returns : goal.returns
+returns c =
+    let join = c.join-joined in
+    let args = c.args in
+    (rw (c.done.ensures, c.holding.ensures, join.ensures.bounded, join.ensures.held, c.config-t.ensures) at c.decide.ensures)
+    ∙ tested args.v args.self (sym c.is_well_formed.ensures ∙ not-false _ c.if-not-is_well_formed.false-raw)

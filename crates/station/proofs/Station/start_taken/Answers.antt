@@ -1,0 +1,6 @@
+-- `station::Station::start_taken` meets its contract: one wait less, and nothing else changes. Assumes nothing.
+use borrow.Author.Rules.{rules}
+use Rattle.station.proofs.Station.start_taken.Goals as goal
+
+pub returns : goal.returns
+returns c = rw c.less_one.ensures
