@@ -1,1 +1,2 @@
 // Laws only: no code.
+#![tactic(auto)]
