@@ -1,0 +1,13 @@
+-- `stations::load_aggregate` meets its contract: sums, and the word of missing numbers. Assumes nothing.
+use mathlib.Core.Path.{ap, ◌∙◌}
+use mathlib.Core.List.{List}
+use Prim.Native.Nat.{ℕ, ◌+◌}
+use lib.ListN.{get_or}
+use Rattle.aggregate.specs.Aggregate.{of_words}
+use borrow.Author.Rules.{rules}
+use Rattle.stations.proofs.load_aggregate.Goals as goal
+
+pub returns : goal.returns
+returns c =
+    let a = c.args in
+    c.of_words.ensures ∙ ap (λ (l : List ℕ). of_words l (get_or a.words.now (a.at + 8) 0)) c.load_sums-sums.ensures

@@ -1,0 +1,15 @@
+-- `stations::load_sums` meets its contract: sum by sum, the word is stored over zero. Assumes nothing.
+use mathlib.Core.Path.{◌≡◌, refl}
+use Prim.Native.Nat.{◌+◌, ◌-◌, ◌≤◌}
+use lib.ListN.{get_or, replicate}
+use native.Mathlib.Omega.{arith}
+use Rattle.finite.specs.Below.{tabulate, each}
+use Rattle.finite.proofs.Below.{stored, stored_more}
+use Rattle.stations.specs.Words.{sums_in}
+use Rattle.stations.proofs.load_sums.Given as goal
+
+abbrev pub invariant-loop-j : goal.invariant-loop-j
+invariant-loop-j l = (l.j ≤ 8) × (l.sums ≡ stored (replicate 8 0) l.j (λ n. get_or l.words (l.at + n) 0))
+
+abbrev pub decreases-loop-j : goal.decreases-loop-j
+decreases-loop-j l = 8 - l.j

@@ -1,0 +1,64 @@
+-- `stations::put_fresh` meets its contract. The invariant: the first i places are those of the table, the rest of the words stays. Assumes nothing.
+use mathlib.Core.Path.{◌≡◌, refl, ap, ◌∙◌}
+use Prim.Native.Nat.{◌+◌, ◌≤◌, ◌<◌, ◌-◌}
+use native.Mathlib.Omega.{arith}
+use lib.ListN.{length, take, get_or}
+use Rattle.finite.specs.Below.{each, tabulate}
+use Rattle.finite.proofs.Below.{tabulate_more, tabulate-all}
+use Rattle.aggregate.specs.declared.Reading.{Reading}
+use Rattle.stations.specs.Stations.{reading_at, fresh_station, fresh_stations}
+use Rattle.stations.specs.Words.{config_in, stations_in, spare_in}
+use Rattle.stations.proofs.Words.{length-stations}
+use Rattle.stations.proofs.put_fresh.Goals as goal
+
+pub put_config-requires : goal.put_config-requires
+put_config-requires c = tt
+
+pub loop-i-init : goal.loop-i-init
+unfolding tabulate each
+loop-i-init c = (omega arith, refl, refl, refl)
+
+pub reading_at-reading-requires : goal.reading_at-reading-requires
+reading_at-reading-requires c = omega arith
+
+pub overflow_cast-i : goal.overflow_cast-i
+overflow_cast-i c = omega arith
+
+pub offset_bounds-neighbours-i : goal.offset_bounds-neighbours-i
+offset_bounds-neighbours-i c = omega arith
+
+pub bounds-neighbours-i : goal.bounds-neighbours-i
+bounds-neighbours-i c = omega arith
+
+pub fresh_station-s-requires : goal.fresh_station-s-requires
+fresh_station-s-requires c = tt
+
+pub store-requires : goal.store-requires
+store-requires c = tt
+
+pub overflow_add-i : goal.overflow_add-i
+overflow_add-i c = omega arith
+
+pub loop-i-smaller : goal.loop-i-smaller
+loop-i-smaller c = omega arith
+
+pub loop-i-preserved : goal.loop-i-preserved
+loop-i-preserved c =
+    let a = c.args in
+    let l = c.loop-i in
+    let stored = c.store.ensures in
+    let inside : l.i < length (stations_in l.words) = omega (arith, length-stations l.words) in
+    let s = c.fresh_station-s.ensures ∙ ap (λ (r : Reading). fresh_station a.t r (get_or a.neighbours l.i 0) l.i) c.reading_at-reading.ensures in (
+      omega arith,
+      ap (take (l.i + 1)) stored.stations ∙ tabulate_more _ (stations_in l.words) l.i c.fresh_station-s.result inside l.invariant.1 s,
+      stored.config ∙ l.invariant.2,
+      stored.spare ∙ l.invariant.3,
+    )
+
+pub returns : goal.returns
+unfolding fresh_stations
+returns c =
+    let l = c.loop-i in
+    let put = c.put_config.ensures in
+    let end : l.i ≡ 64 = omega arith in
+    record { config = l.invariant.2 ∙ put.config; stations = tabulate-all _ (stations_in l.words) l.i 64 end (length-stations l.words) l.invariant.1; spare = l.invariant.3 ∙ put.spare }
