@@ -74,7 +74,7 @@ on_map Ns rule = record {
     answer = λ d. d.answer;
     after = λ d. d.map;
     tells = LL.tells OnMap.the_type OnMap'.the_laws;
-    typed = λ 𝓤 H At W d v is. ((LL.lawful OnMap.the_type OnMap'.the_laws 𝓤 H At W).typed d _ is).0;
+    typed = λ 𝓛 d v is. ((LL.lawful OnMap.the_type OnMap'.the_laws 𝓛).typed d _ is).0;
     is_an_answer = λ d vs is. (LL.owed OnMap.the_type OnMap'.the_laws d vs is).0;
     is-after = λ d vs is. (LL.owed OnMap.the_type OnMap'.the_laws d vs is).1.0;
   };

@@ -1,6 +1,5 @@
 -- `station::Process::decide` meets its contract: each return is one clause of the definition, by the tests before it. Assumes nothing.
 use borrow.Author.Tests.{not-true, not-false}
-use borrow.Author.Rules.{rules}
 use Rattle.station.specs.Process.{decide}
 use Rattle.station.proofs.Process.decide.Goals as goal
 

@@ -1,5 +1,4 @@
 -- `station::Process::done` meets its contract: the reply and the process are the definition's. Assumes nothing.
-use borrow.Author.Rules.{rules}
 use Rattle.station.proofs.Process.done.Goals as goal
 
 pub returns : goal.returns

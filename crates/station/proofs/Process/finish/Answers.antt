@@ -1,7 +1,6 @@
 -- `station::Process::finish` meets its contract: each return is one clause of `decide`, by the tests before it. Assumes nothing.
 use mathlib.Core.Path.{sym, ◌∙◌}
 use borrow.Author.Tests.{not-true, not-false}
-use borrow.Author.Rules.{rules}
 use Rattle.station.specs.Process.{decide}
 use Rattle.station.proofs.Process.finish.Goals as goal
 

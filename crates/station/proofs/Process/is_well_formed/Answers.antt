@@ -1,6 +1,5 @@
 -- `station::Process::is_well_formed` meets its contract: the tests are the definition's. Assumes nothing.
 use Rattle.station.specs.Form.{well_formed_process}
-use borrow.Author.Rules.{rules}
 use Rattle.station.proofs.Process.is_well_formed.Goals as goal
 
 pub returns : goal.returns

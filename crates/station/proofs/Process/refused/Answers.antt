@@ -1,5 +1,4 @@
 -- `station::Process::refused` meets its contract: the number is the refusal's, and the process stays. Assumes nothing.
-use borrow.Author.Rules.{rules}
 use Rattle.station.proofs.Process.refused.Goals as goal
 
 pub returns : goal.returns

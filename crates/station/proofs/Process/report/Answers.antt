@@ -1,5 +1,4 @@
 -- `station::Process::report` meets its contract: `finish` of the code is `decide` of the rules, at what the callees ensure. Assumes nothing.
-use borrow.Author.Rules.{rules}
 use Rattle.station.specs.Process.{report}
 use Rattle.station.proofs.Process.report.Goals as goal
 

@@ -1,5 +1,4 @@
 -- `station::Process::send_answer` meets its contract: `finish` of the code is `decide` of the rules, at what the callees ensure. Assumes nothing.
-use borrow.Author.Rules.{rules}
 use Rattle.station.specs.Process.{send_answer}
 use Rattle.station.proofs.Process.send_answer.Goals as goal
 

@@ -1,5 +1,4 @@
 -- `station::Process::send_start` meets its contract: `decide` of the code is that of the rules, at what the callees ensure. Assumes nothing.
-use borrow.Author.Rules.{rules}
 use Rattle.station.specs.Process.{send_start}
 use Rattle.station.proofs.Process.send_start.Goals as goal
 

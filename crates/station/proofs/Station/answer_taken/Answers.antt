@@ -1,7 +1,6 @@
 -- `station::Station::answer_taken` meets its contract: past the test the code's join is the rules'. Assumes nothing.
 use mathlib.Core.Path.{sym, ◌∙◌}
 use borrow.Author.Tests.{not-true, not-false}
-use borrow.Author.Rules.{rules}
 use Rattle.station.proofs.Station.answer_taken.Goals as goal
 
 pub returns-then-not-joined : goal.returns-then-not-joined

@@ -1,5 +1,4 @@
 -- `station::Station::holding` meets its contract: a wait less is the rules' difference. Assumes nothing.
-use borrow.Author.Rules.{rules}
 use Rattle.station.proofs.Station.holding.Goals as goal
 
 pub returns : goal.returns

@@ -2,7 +2,6 @@
 -- the last decides. Assumes nothing.
 use mathlib.Core.Path.{sym, ◌∙◌}
 use mathlib.Core.Bool.{and-false}
-use borrow.Author.Rules.{rules}
 use borrow.Author.Tests.{le-leb, lt-leb, lt-ltb, le-ltb, not-true, not-false}
 use Rattle.station.specs.Form.{well_formed}
 use Rattle.station.proofs.Station.is_well_formed.Goals as goal

@@ -1,5 +1,4 @@
 -- `station::Station::may_answer` meets its contract: the two tests are the definition's. Assumes nothing.
-use borrow.Author.Rules.{rules}
 use Rattle.station.specs.Events.{may_answer}
 use Rattle.station.proofs.Station.may_answer.Goals as goal
 

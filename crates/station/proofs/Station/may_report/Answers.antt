@@ -1,5 +1,4 @@
 -- `station::Station::may_report` meets its contract: the two tests are the definition's. Assumes nothing.
-use borrow.Author.Rules.{rules}
 use Rattle.station.specs.Events.{may_report}
 use Rattle.station.proofs.Station.may_report.Goals as goal
 

@@ -1,5 +1,4 @@
 -- `station::Station::may_send_start` meets its contract: the two tests are the definition's. Assumes nothing.
-use borrow.Author.Rules.{rules}
 use Rattle.station.specs.Events.{may_send_start}
 use Rattle.station.proofs.Station.may_send_start.Goals as goal
 

@@ -1,5 +1,4 @@
 -- `station::Station::start_sent` meets its contract: the set is that of `without`, and nothing else changes. Assumes nothing.
-use borrow.Author.Rules.{rules}
 use Rattle.station.proofs.Station.start_sent.Goals as goal
 
 pub returns : goal.returns

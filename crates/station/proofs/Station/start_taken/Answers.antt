@@ -1,5 +1,4 @@
 -- `station::Station::start_taken` meets its contract: one wait less, and nothing else changes. Assumes nothing.
-use borrow.Author.Rules.{rules}
 use Rattle.station.proofs.Station.start_taken.Goals as goal
 
 pub returns : goal.returns

@@ -1,6 +1,5 @@
 -- `station::Station::started_by` meets its contract: the test of the state picks line 1 or line 4. Assumes nothing.
 use borrow.Author.Tests.{eq-eqb, ne_eqb}
-use borrow.Author.Rules.{rules}
 use Rattle.station.specs.Events.{started_by}
 use Rattle.station.proofs.Station.started_by.Goals as goal
 

@@ -1,5 +1,4 @@
 -- `station::Station::woken` meets its contract: each field is the definition's, by the callees' contracts. Assumes nothing.
-use borrow.Author.Rules.{rules}
 use Rattle.station.proofs.Station.woken.Goals as goal
 
 pub returns : goal.returns
