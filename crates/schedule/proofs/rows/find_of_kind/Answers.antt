@@ -1,19 +1,13 @@
 -- `schedule::rows::find_of_kind` meets its contract: at each place of the scan the entry looked for is entry `left` of the steps still to be
 -- scanned, and a row that is passed whole has as many steps as its set has members. Assumes nothing.
-use Rattle.std.proofs.Common.{ℕ, ◌+◌, ◌-◌, ◌*◌, List, sym, refl, ap, ◌∙◌, arith}
+use Rattle.std.proofs.Common.{◌+◌, ◌-◌, ◌*◌, sym, refl, ap, ◌∙◌, arith}
 use Rattle.bitset.specs.Set.{member, size}
 use Rattle.bitset.proofs.Selected.{none_of_eight}
-use Rattle.schedule.specs.declared.rows.Entry.{Entry}
-use Rattle.schedule.specs.Listing.{select}
-use Rattle.schedule.specs.Rows.{steps_of_kind, entry, in_rows}
+use Rattle.schedule.specs.Rows.{in_rows}
 use Rattle.schedule.proofs.Scan.{senders_end, row-start, row_passed, row-end, met, passed, skipped, all_past}
 use Rattle.schedule.proofs.RowLists.{row_length_lem}
 use Rattle.schedule.proofs.rows.find_of_kind.Goals as goal
 use Rattle.schedule.proofs.rows.find_of_kind.Goals.{then-members-left, else-members-left, then-contains+else-left-eq0, else-contains, else-scan-test, then-scan-test+then-loop-receiver-test+else-set-receiver-eq0+then-contains+then-left-eq0}
-
--- the entry looked for
-abbrev sought : List ℕ → ℕ → ℕ → ℕ → Entry
-sought rows kind k index = entry (select (in_rows rows) (steps_of_kind 64 k kind 0)) index
 
 pub scan-init : goal.scan-init
 scan-init c = record { same = refl }
