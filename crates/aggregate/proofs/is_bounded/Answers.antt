@@ -33,7 +33,7 @@ unfolding bounded
 returns-then-not-is_cell_bounded c =
     let args = c.args in
     let l = c.loop-i in
-    sym (all_below_fails (λ j. cell_bounded args.t.way (cell args.a j)) _ l.i (omega arith) (sym c.is_cell_bounded.ensures ∙ not-true _ c.if-not-is_cell_bounded.true-raw))
+    sym (all_below_fails (λ j. cell_bounded args.t.way (cell args.a j)) _ l.i (omega arith) (sym c.is_cell_bounded.ensures ∙ c.if-not-is_cell_bounded.true))
 
 pub overflow_add-i : goal.overflow_add-i
 overflow_add-i c = omega arith
@@ -47,7 +47,7 @@ loop-i-preserved c =
     let l = c.loop-i in (
       omega arith,
       all_below_more (λ j. cell_bounded args.t.way (cell args.a j)) l.i
-          ∙ ap₂ (λ (x y : Bool). x && y) l.invariant.1 (sym c.is_cell_bounded.ensures ∙ not-false _ c.if-not-is_cell_bounded.false-raw),
+          ∙ ap₂ (λ (x y : Bool). x && y) l.invariant.1 (sym c.is_cell_bounded.ensures ∙ c.if-not-is_cell_bounded.false),
     )
 
 pub returns : goal.returns

@@ -1,5 +1,5 @@
 -- `aggregate::join` meets its contract: class by class, the joined cell is stored over the first's places. Assumes nothing.
-use mathlib.Core.Path.{◌≡◌, refl, sym, ap₂, ◌∙◌}
+use mathlib.Core.Path.{◌≡◌, refl, sym, ap, ap₂, ◌∙◌}
 use mathlib.Core.Bool.{Bool, true, false, not, ◌&&◌}
 use Prim.Native.Nat.{ℕ, ◌+◌, ◌≤◌, ◌<◌, ◌-◌, min}
 use lib.ListN.{length, length-map}
@@ -15,6 +15,7 @@ use Rattle.aggregate.proofs.Places.{Storing, storing_none, storing_more, storing
 use Rattle.aggregate.proofs.Laws.{cell_parts, bounded_at}
 use native.Mathlib.Omega.{arith}
 use Rattle.aggregate.proofs.join.Goals as goal
+use Rattle.aggregate.proofs.join.Goals.{Else-not-is_cell_bounded}
 
 pub count_used-classes-requires : goal.count_used-classes-requires
 count_used-classes-requires c = tt
@@ -62,18 +63,18 @@ failed t a b i l p q e f h =
 pub returns-then-not-is_cell_bounded : goal.returns-then-not-is_cell_bounded
 returns-then-not-is_cell_bounded c =
     let l = c.loop-class in
-    let e = failed c.args.t c.args.a c.args.b l.class (omega arith) _ _ c.is_cell_bounded.ensures c.is_cell_bounded-in-loop-class.ensures c.if-not-is_cell_bounded.true-raw in
+    let e = failed c.args.t c.args.a c.args.b l.class (omega arith) _ _ c.is_cell_bounded.ensures c.is_cell_bounded-in-loop-class.ensures (ap not c.if-not-is_cell_bounded.true) in
     record { bounded = sym e; held = rw e }
 
 -- past the test both are
-both_passed : (c : goal.Else-not-is_cell_bounded) → let i = c.loop-class.class in
+both_passed : (c : Else-not-is_cell_bounded) → let i = c.loop-class.class in
     (cell_bounded c.args.t.way (cell c.args.a i) ≡ true) × (cell_bounded c.args.t.way (cell c.args.b i) ≡ true)
 both_passed c =
-    let both = and_both c.is_cell_bounded.result c.is_cell_bounded-in-loop-class.result (not-false _ c.if-not-is_cell_bounded.false-raw) in
+    let both = and_both c.is_cell_bounded.result c.is_cell_bounded-in-loop-class.result c.if-not-is_cell_bounded.false in
     (sym c.is_cell_bounded.ensures ∙ both.0, sym c.is_cell_bounded-in-loop-class.ensures ∙ both.1)
 
 -- so the missing numbers do not wrap
-passed : (c : goal.Else-not-is_cell_bounded) → let i = c.loop-class.class in
+passed : (c : Else-not-is_cell_bounded) → let i = c.loop-class.class in
     ((cell c.args.a i).missing ≤ 64) × ((cell c.args.b i).missing ≤ 64)
 passed c = ((cell_parts _ _ (both_passed c).0).1, (cell_parts _ _ (both_passed c).1).1)
 
@@ -90,7 +91,7 @@ bounds-sums-class c = omega arith
 
 pub overflow_add-missing : goal.overflow_add-missing
 overflow_add-missing c =
-    let both = passed (c.before.before.before) in
+    let both = passed (goal.at.overflow_add-missing c).Else-not-is_cell_bounded in
     omega (arith, both.0, both.1)
 
 pub bounds-missing-class : goal.bounds-missing-class
@@ -108,7 +109,7 @@ loop-class-preserved c =
     let l = c.loop-class in
     let ls : length c.args.a.sums ≡ 8 = c.well_formed.1.0.1.1.0.1.0.1 in
     let lm : length c.args.a.missing ≡ 8 = c.well_formed.1.0.1.1.1.0.1.0.1 in
-    let one = both_passed (c.before.before.before) in (
+    let one = both_passed (goal.at.loop-class-preserved c).Else-not-is_cell_bounded in (
       omega arith,
       storing_more (λ j. cell_joined c.args.t.way (cell c.args.a j) (cell c.args.b j)) c.args.a.sums c.args.a.missing ls lm l.sums l.missing l.class
           l.invariant.1 (record { sum = c.join_sums.result; missing = (cell c.args.a l.class).missing + (cell c.args.b l.class).missing })
