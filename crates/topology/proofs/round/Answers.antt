@@ -1,0 +1,53 @@
+-- `topology::round` meets its contract. Invariant: the set of the stations below i that are near. Assumes nothing.
+use mathlib.Core.Path.{◌≡◌, refl, ap, ◌∙◌}
+use mathlib.Core.Bool.{Bool}
+use Prim.Native.Nat.{ℕ, ◌+◌, ◌<◌, ◌^◌}
+use native.Mathlib.Omega.{arith}
+use lib.ListN.{get_or}
+use Rattle.bitset.specs.Set.{bit_if}
+use Rattle.bitset.specs.Internal.Selected.{set_of}
+use Rattle.bitset.proofs.Selected.{set_next}
+use Rattle.topology.specs.Internal.Parts.{near_by}
+use Rattle.topology.proofs.round.Goals as goal
+
+abbrev test : goal.After-bit_if-out → ℕ → Bool
+test c x =
+    near_by c.args.root (get_or c.args.sets.now x 0) c.args.reached x
+
+-- a turn adds station i, if it is near
+next : (c : goal.After-bit_if-out)
+    → let at = c.loop-i in
+    (at.out + c.bit_if-out.result ≡ set_of (at.i + 1) (test c)) × (at.out + c.bit_if-out.result < 2 ^ 64)
+next c =
+    set_next (test c) c.loop-i.i (omega arith) c.loop-i.invariant.1
+    (c.bit_if-out.ensures ∙ ap (λ (b : Bool). bit_if b c.loop-i.i) c.is_near-near.ensures)
+
+pub loop-i-init : goal.loop-i-init
+unfolding set_of
+loop-i-init c = (omega arith, refl)
+
+pub overflow_cast-i : goal.overflow_cast-i
+overflow_cast-i c = omega arith
+
+pub offset_bounds-sets-i : goal.offset_bounds-sets-i
+offset_bounds-sets-i c = omega arith
+
+pub bounds-sets-i : goal.bounds-sets-i
+bounds-sets-i c = omega arith
+
+pub overflow_add-out : goal.overflow_add-out
+overflow_add-out c = omega (arith, (next c).1)
+
+pub overflow_add-i : goal.overflow_add-i
+overflow_add-i c = omega arith
+
+pub loop-i-smaller : goal.loop-i-smaller
+loop-i-smaller c = omega arith
+
+pub loop-i-preserved : goal.loop-i-preserved
+loop-i-preserved c = (omega arith, (next c).0)
+
+pub returns : goal.returns
+returns c =
+    let all : c.loop-i.i ≡ c.args.k = omega arith in
+    rw all at c.loop-i.invariant.1
