@@ -85,7 +85,9 @@ one_way c =
     let sets = c.args.sets.now in
     let namers = c.args.namers.now in
     let found : c.find_lowest-one_way.result ≡ lowest k (breaks rule.OneWay k sets namers) = c.find_lowest-one_way.ensures in
-    let same = found ∙ lowest_ext k _ _ (λ i l. one_sided_transposed k sets namers i (few (c.before.before.before.before.before)) l c.requires.2 (inside (c.before.before.before) i l)) in
+    let all = few (c.before.before.before.before.before) in
+    let within_k = inside (c.before.before.before) in
+    let same = found ∙ lowest_ext k _ _ (λ i l. one_sided_transposed k sets namers i all l c.requires.2 (within_k i l)) in
     rw same (none_itself (c.before))
 
 none-one_way : (c : Else-one_way-k) → Left (c.before.before.before.before.before.before) chains

@@ -19,7 +19,10 @@ returns-then-next-reached c =
     let sets = c.args.sets.now in
     let t = c.loop-t.t in
     let whole : t + (k - t) ≡ k = omega arith in
-    let still = ap (round_of root k sets) (sym c.loop-t.invariant.1) ∙ sym c.round-next.ensures ∙ c.if-next-reached.true ∙ c.loop-t.invariant.1 in
+    let still = ap (round_of root k sets) (sym c.loop-t.invariant.1)
+    ∙ sym c.round-next.ensures
+    ∙ c.if-next-reached.true
+    ∙ c.loop-t.invariant.1 in
     c.loop-t.invariant.1
     ∙ sym (rounds_settle root k sets t (k - t) still)
     ∙ ap (λ (n : ℕ). set_of k (near (linked k sets) root k n)) whole
