@@ -2,7 +2,7 @@
 ghost use Rattle.std.specs.Prelude.{◌≡◌, ◌≤◌, ◌<◌, length};
 ghost use Rattle.aggregate.specs.Aggregate.{root_of};
 ghost use Rattle.stations.specs.Words.{stations_in};
-ghost use Rattle.schedule.specs.Internal.Rows.{others};
+ghost use Rattle.schedule.specs.Internal.Rows.{Others};
 ghost use Rattle.mailbox.specs.Internal.Receivers as Rules;
 
 use crate::delivery::may_report;
@@ -77,7 +77,7 @@ pub(crate) fn fill(
     boxes: &[u64; 36992],
 ) -> Sizes
     requires { (t.k ≤ 64) × (length rows.old ≡ 256) }
-    ensures { Rules.HoldReceivers Rules.all t.k (root_of t) takers reports boxes.now rows.new result }
+    ensures { Rules.HoldReceivers Rules.AnySender t.k (root_of t) takers reports boxes.now rows.new result }
 {
     let k = t.k;
     let root = aggregate::root(t);
@@ -141,8 +141,8 @@ pub(crate) fn follow(
     step: Step,
 ) -> Sizes
     requires places { (t.k ≤ 64) × ((step.sender < t.k) × (step.receiver < t.k)) }
-    requires rows { Rules.HoldReceivers (others step) t.k (root_of t) old reports boxes.now rows.old sizes }
-    ensures { Rules.HoldReceivers Rules.all t.k (root_of t) takers reports boxes.now rows.new result }
+    requires rows { Rules.HoldReceivers (Others step) t.k (root_of t) old reports boxes.now rows.old sizes }
+    ensures { Rules.HoldReceivers Rules.AnySender t.k (root_of t) takers reports boxes.now rows.new result }
 {
     if (takers.starts == old.starts) & (takers.answers == old.answers) {
         let one = refill(rows, sizes, t, takers, reports, boxes, step.sender);

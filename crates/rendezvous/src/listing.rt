@@ -3,7 +3,7 @@ ghost use Rattle.std.specs.Prelude.{◌≡◌, false, List, ℕ, ◌≤◌, ◌<
 ghost use Rattle.aggregate.specs.Aggregate.{root_of};
 ghost use Rattle.schedule.specs.Listing.{listed};
 ghost use Rattle.schedule.specs.Draws.{picked};
-ghost use Rattle.schedule.specs.Internal.Rows.{sizes_without, others, Filled};
+ghost use Rattle.schedule.specs.Internal.Rows.{sizes_without, Others, Filled};
 ghost use Rattle.stations.specs.Stations.{station_at};
 ghost use Rattle.stations.specs.Words.{config_in, stations_in};
 ghost use Rattle.rendezvous.specs.Net.{net_in, carrying_in};
@@ -246,7 +246,7 @@ pub(crate) fn follow(
 ) -> Sizes
     requires places { (k ≤ 64) × ((step.sender < k) × (step.receiver < k)) }
     requires states { Agree step old states }
-    requires rows { HoldSome (others step) k old (kept_at kept.now) rows.old sizes }
+    requires rows { HoldSome (Others step) k old (kept_at kept.now) rows.old sizes }
     ensures { HoldTakers k states (kept_at kept.now) rows.new result }
 {
     let same = (states.asleep == old.asleep) & (states.active == old.active);
