@@ -54,7 +54,7 @@ carried_on way w m fits good calls =
     let formed = all.formed calls in
     let rest = rest_refuses rules net formed in
     record {
-      tells_follow = back.tells-last;
+      tells_follow = back.tells_last;
       no_tell_before = λ none. back.tells-after (reports-counted (carrying way) (steps (carrying way) m calls) ∙ none);
       at_most = back.at_most;
       rest-full = (λ none. back.rest-full.0 (rest.1 none), λ full. rest.0 (back.rest-full.1 full));

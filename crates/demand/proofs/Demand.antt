@@ -146,7 +146,7 @@ carrying_holds way w m fits good calls =
     let K = carrying way in
     let back = (rendezvous_carried way w m fits good).back calls in
     let net = left K m calls in
-    holds_of K (carrying_rooted way) m fits good calls (select is_tell (made K m calls)) back.tells-last
+    holds_of K (carrying_rooted way) m fits good calls (select is_tell (made K m calls)) back.tells_last
     (claim_rest m.k (linked m.k m.neighbours) (joining K.way) (readings K.way m) _ _ _ _
     (λ r s a. r s (not-true (is_tell s) a.0, a.1))
     (λ r s a. r s (ap not a.0, a.1))

@@ -67,7 +67,7 @@ module _ (way : ℕ) (ok : is_way way ≡ true) (m : Map) (fits : Fits m) (e : a
       record {
         plain = plain;
         walked = walked;
-        first = λ calls. (tells_of tell (made (carrying way) m calls), ((rendezvous_carried way ok m fits e).back calls).tells-last);
+        first = λ calls. (tells_of tell (made (carrying way) m calls), ((rendezvous_carried way ok m fits e).back calls).tells_last);
         same-reports = refl;
         same_way = refl;
         awake_is = λ net i. ap (λ (s : Station). eqb s.state asleep) (at_plain net i) ∙ settled_early (station net i).state asleep (omega arith);
