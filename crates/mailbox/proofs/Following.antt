@@ -1,4 +1,4 @@
--- Rows that follow a step: those of a sender are stored anew, and the step leaves those of AnySender senders but its two stations. Assumes nothing.
+-- Rows that follow a step: those of a sender are stored anew, and the step leaves those of all senders but its two stations. Assumes nothing.
 use mathlib.Core.Path.{◌≡◌, ◌∙◌}
 use mathlib.Core.Bool.{Bool}
 use mathlib.Core.Logic.{◌⊎◌}

@@ -82,7 +82,7 @@ module _ (step : Step) (hs : step.sender < 64) (hr : step.receiver < 64) where
       clash in-met (ap (member i) e ∙ member_empty i))
       (λ f. f)
 
-  -- a part that misses both is cut the same by sets that agree on the Others
+  -- a part that misses both is cut the same by sets that agree on the others
   same_cut : (part a b : ℕ) → a < 2 ^ 64 → b < 2 ^ 64 → ((i : ℕ) → Others step i → member i b ≡ member i a)
       → ((i : ℕ) → member i (both_of step) ≡ true → member i part ≡ false) → bit_and part a ≡ bit_and part b
   same_cut part a b ha hb agree none =

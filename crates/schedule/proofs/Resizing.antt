@@ -99,7 +99,7 @@ module _ {those : ℕ → Type 0} {k : ℕ} {row_of : ℕ → ℕ → ℕ} {rows
         sizes = sizes_anew_lem rows k few H.sized H.small j low row fits H.sizes;
       }
 
-  -- fewer senders, or Others of which it is known
+  -- fewer senders, or others of which it is known
   pub hold_those : {these : ℕ → Type 0} → ((s : ℕ) → s < k → these s → those s) → HoldRows these k row_of rows z
   hold_those f = record { sized = H.sized; small = H.small; row = λ kind s h l m t. H.row kind s h l m (f s m t); sizes = H.sizes }
 

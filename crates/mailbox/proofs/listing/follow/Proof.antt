@@ -21,7 +21,7 @@ same c =
     let both = and_both (eqb a.takers.starts a.old.starts) (eqb a.takers.answers a.old.answers) c.if1.true in
     ap₂ (λ (starts answers : ℕ). record { starts = starts; answers = answers }) (eqb-true _ _ both.0) (eqb-true _ _ both.1)
 
--- so the rows of the Others stand
+-- so the rows of the others stand
 held : (c : tie.Then1) → let a = c.before.before.before.before.before.args in
     HoldReceivers (Others a.step) a.t.k (root_of a.t) a.takers a.reports a.boxes.now a.rows.now a.sizes
 held c = rw (same c) c.before.before.before.before.before.requires.1
