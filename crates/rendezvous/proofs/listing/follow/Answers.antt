@@ -1,0 +1,103 @@
+-- `rendezvous::listing::follow` meets its contract. Invariant: the rows are right of the senders below x and of those that may send to neither
+-- station of the step. Assumes nothing.
+use mathlib.Core.Path.{◌≡◌, ◌∙◌, ap₂}
+use mathlib.Core.Logic.{inl}
+use Prim.Native.Nat.{ℕ, ◌-◌, ◌^◌, ◌≤◌, ◌<◌}
+use native.Mathlib.Omega.{arith}
+use lib.Dec.{eqb}
+use borrow.Author.Tests.{eqb-true}
+use Rattle.finite.proofs.Cases.{and_both, by-sum}
+use Rattle.bitset.specs.Set.{union}
+use Rattle.schedule.specs.Internal.Rows.{Others}
+use Rattle.schedule.proofs.Resizing.{others_or_two}
+use Rattle.rendezvous.specs.Internal.Receivers.{kept_at, HoldSome}
+use Rattle.rendezvous.proofs.Following.{held_anew, hold_all, Passed, rows_stand, passed_none, passed_missing, passed_anew}
+use Rattle.rendezvous.proofs.listing.follow.Goals as goal
+use Rattle.rendezvous.proofs.listing.follow.Goals.{then-met-ne0, else-met-ne0, In-loop-x}
+
+-- the step has left the states as they were
+same : (c : goal.Then-same) → let a = c.args in a.states ≡ a.old
+same c =
+    let a = c.args in
+    let both = and_both (eqb a.states.asleep a.old.asleep) (eqb a.states.active a.old.active) c.if-same.true in
+    ap₂ (λ (asleep active : ℕ). record { asleep = asleep; active = active }) (eqb-true _ _ both.0) (eqb-true _ _ both.1)
+
+-- so the rows of the others stand
+held : (c : goal.Then-same) → let a = c.args in
+    HoldSome (Others a.step) a.k a.states (kept_at a.kept.now) a.rows.now a.sizes
+held c = rw (same c) c.requires.rows
+
+-- in the loop
+low : (c : In-loop-x) → c.loop-x.x < 64
+low c = omega (arith, c.loop-x-test.true, c.requires.places.0)
+
+pub returns-then-same-k : goal.returns-then-same-k
+returns-then-same-k c = c.fill.ensures
+
+pub refill-one-requires : goal.refill-one-requires
+refill-one-requires c = let p = c.requires.places in omega (arith, p.0, p.1.0)
+
+pub refill-all-requires : goal.refill-all-requires
+refill-all-requires c = let p = c.requires.places in omega (arith, p.0, p.1.1)
+
+pub returns-then-same : goal.returns-then-same
+returns-then-same c =
+    let step = c.args.step in
+    let p = c.requires.places in
+    let one = held_anew p.0 (held c) step.sender p.1.0 c.refill-one.ensures in
+    hold_all (λ s m. others_or_two step s) (held_anew p.0 one step.receiver p.1.1 c.refill-all.ensures)
+
+pub loop-x-init : goal.loop-x-init
+loop-x-init c =
+    let a = c.args in
+    let step = a.step in
+    let p = c.requires.places in
+    let set = c.union-both.ensures ∙ ap₂ union c.bit_if.ensures c.bit_if-2.ensures in
+    let was : (a.old.asleep < 2 ^ 64) × (a.old.active < 2 ^ 64) =
+    (omega arith, omega arith) in
+    let is : (a.states.asleep < 2 ^ 64) × (a.states.active < 2 ^ 64) =
+    (omega arith, omega arith) in
+    let stand = rows_stand step (omega (arith, p.0, p.1.0)) (omega (arith, p.0, p.1.1)) c.requires.states was is c.requires.rows in
+    let one = held_anew p.0 stand step.sender p.1.0 c.refill-one.ensures in
+    (omega arith, passed_none _ step set (held_anew p.0 one step.receiver p.1.1 c.refill-all.ensures))
+
+pub overflow_cast-at : goal.overflow_cast-at
+overflow_cast-at c = omega (arith, low (goal.at.overflow_cast-at c).In-loop-x)
+
+pub offset_bounds-kept-at : goal.offset_bounds-kept-at
+offset_bounds-kept-at c = omega (arith, low (goal.at.offset_bounds-kept-at c).In-loop-x)
+
+pub bounds-kept-at : goal.bounds-kept-at
+bounds-kept-at c = omega (arith, low (goal.at.bounds-kept-at c).In-loop-x)
+
+pub overflow_add-home : goal.overflow_add-home
+overflow_add-home c = omega (arith, low (goal.at.overflow_add-home c).In-loop-x)
+
+pub offset_bounds-kept-at-in-loop-x : goal.offset_bounds-kept-at-in-loop-x
+offset_bounds-kept-at-in-loop-x c = omega (arith, low (goal.at.offset_bounds-kept-at-in-loop-x c).In-loop-x)
+
+pub bounds-kept-at-in-loop-x : goal.bounds-kept-at-in-loop-x
+bounds-kept-at-in-loop-x c = omega (arith, low (goal.at.bounds-kept-at-in-loop-x c).In-loop-x)
+
+pub refill-all-requires-then-met-ne0 : goal.refill-all-requires-then-met-ne0
+refill-all-requires-then-met-ne0 c = low (goal.at.refill-all-requires-then-met-ne0 c).In-loop-x
+
+pub overflow_add-x : goal.overflow_add-x
+overflow_add-x c = omega (arith, low (goal.at.overflow_add-x c).In-loop-x)
+
+pub loop-x-preserved : goal.loop-x-preserved
+loop-x-preserved c =
+    let l = c.loop-x in (
+      omega (arith, c.loop-x-test.true),
+      elim c.if-met-ne0.branch [
+        | then-met-ne0 w ↦
+            rw (w.rows-is, w.all-is)
+            (passed_anew _ c.requires.places.0 (omega (arith, c.loop-x-test.true)) l.invariant.1 w.refill-all-then-met-ne0.ensures)
+        | else-met-ne0 w ↦ rw (w.rows-is, w.all-is) (passed_missing _ (rw c.union.ensures at w.if-met-ne0.false) l.invariant.1)
+      ],
+    )
+
+pub returns : goal.returns
+returns c =
+    let l = c.loop-x in
+    hold_all (λ s m. inl (omega (arith, m, c.loop-x-test.false))) l.invariant.1

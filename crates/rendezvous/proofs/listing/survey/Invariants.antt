@@ -1,0 +1,44 @@
+-- `rendezvous::listing::survey` meets its contract. Invariant: the stations below j are in form, both sets are of them, and what they may send is
+-- kept; one that is not in form ends it. Assumes nothing.
+use mathlib.Core.Path.{◌≡◌, refl, sym, ◌∙◌, ap, ap₂, subst}
+use mathlib.Core.Bool.{Bool, true, false}
+use mathlib.Core.List.{List}
+use Prim.Native.Nat.{ℕ, ◌+◌, ◌-◌, ◌≤◌, ◌<◌, ◌^◌}
+use native.Mathlib.Omega.{arith}
+use lib.Dec.{eqb}
+use borrow.Author.Tests.{not-true, not-false, eq-eqb, ne_eqb}
+use Rattle.finite.specs.Below.{all_below}
+use Rattle.finite.proofs.Below.{all_below_more}
+use Rattle.finite.proofs.Cases.{clash, by-sum}
+use Rattle.bitset.specs.Set.{bit_if}
+use Rattle.bitset.specs.Internal.Selected.{set_of}
+use Rattle.bitset.proofs.Selected.{set_next}
+use Rattle.aggregate.specs.declared.Config.{Config}
+use Rattle.aggregate.specs.Aggregate.{valid}
+use Rattle.aggregate.proofs.Laws.{valid-k}
+use Rattle.station.specs.declared.Station.{Station}
+use Rattle.station.specs.Events as events
+use Rattle.rendezvous.specs.declared.listing.States.{States}
+use Rattle.rendezvous.specs.Net.{Net, net_in, station, well_formed}
+use Rattle.rendezvous.specs.Internal.Receivers.{in_state, sends_of, AreSends, Surveyed}
+use Rattle.rendezvous.proofs.Kept.{kept_none, kept_next}
+use Rattle.rendezvous.proofs.FormAfter.{placed, barred_config, barred_place, all_placed, place_read, unformed_flag}
+use Rattle.rendezvous.proofs.listing.survey.Given as goal
+
+-- those of the stations below i in a state
+abbrev below : Net → ℕ → ℕ → ℕ
+below net state i = set_of i (λ x. eqb (station net x).state state)
+
+-- a net out of form
+unformed : (net : Net) (b : Bool) (states : States) (kept : List ℕ) → b ≡ false → well_formed net ≡ false → Surveyed net b states kept
+unformed net b states kept e f = record { form = e ∙ sym f; states_are = λ t. clash t e; sends_are = λ t. clash t e }
+
+abbrev pub invariant-loop-j : goal.invariant-loop-j
+invariant-loop-j l = (l.j ≤ l.k)
+    × (all_below l.j (placed (net_in l.net l.totals)) ≡ true)
+    × (l.asleep ≡ below (net_in l.net l.totals) events.asleep l.j)
+    × (l.active ≡ below (net_in l.net l.totals) events.active l.j)
+    × AreSends (net_in l.net l.totals) l.j l.kept
+
+abbrev pub decreases-loop-j : goal.decreases-loop-j
+decreases-loop-j l = l.k - l.j

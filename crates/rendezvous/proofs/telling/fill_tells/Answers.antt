@@ -1,0 +1,76 @@
+-- `rendezvous::telling::fill_tells` meets its contract. Invariant: the tells to receivers below i stand in the rows. Assumes nothing.
+use mathlib.Core.Path.{◌≡◌, sym, ap, ◌∙◌, subst}
+use mathlib.Core.Bool.{false}
+use mathlib.Core.List.{List, []}
+use Prim.Native.Nat.{ℕ, ◌≤◌, ◌<◌}
+use native.Mathlib.Omega.{arith}
+use lib.Dec.{eqb}
+use borrow.Author.Tests.{ne_eqb}
+use Rattle.aggregate.specs.declared.Config.{Config}
+use Rattle.aggregate.specs.Aggregate.{root_of}
+use Rattle.station.specs.declared.Station.{Station}
+use Rattle.rendezvous.specs.Net.{Net, net_in, station}
+use Rattle.rendezvous.specs.Telling.{is_reported}
+use Rattle.rendezvous.specs.Internal.Receivers.{AreTells}
+use Rattle.rendezvous.proofs.Tells.{tells_none, tells_early, tells_skip, tells_fit, tells-next, tells_any}
+use Rattle.rendezvous.proofs.telling.fill_tells.Goals as goal
+use Rattle.rendezvous.proofs.telling.fill_tells.Goals.{Start, Else-desk-eq-FINISHED, In-loop-i, then-p-k, else-p-k}
+
+abbrev net : Start → Net
+net c = net_in c.args.net.now []
+
+few : (c : Start) → (net c).config.k ≤ 64
+few c = subst (λ (t : Config). t.k ≤ 64) c.requires.config c.requires.places.0
+
+same-k : (c : Start) → c.args.t.k ≡ (net c).config.k
+same-k c = ap (λ (t : Config). t.k) c.requires.config
+
+low : (c : In-loop-i) → c.loop-i.i < 64
+low c = omega (arith, c.loop-i-test.true, c.requires.places.0)
+
+pub loop-i-init : goal.loop-i-init
+loop-i-init c =
+    let start = (goal.at.loop-i-init c).Start in
+    (omega arith, subst (AreTells (net start) 0) (sym c.requires.empty) (tells_none (net start) (few start)))
+
+pub overflow_add-tells : goal.overflow_add-tells
+overflow_add-tells c =
+    let at = goal.at.overflow_add-tells c in
+    let start = at.Start in
+    let in_net : c.find_teller-p.result < (net start).config.k = omega (arith, c.if-p-k.true, same-k start) in
+    omega (arith, tells_fit (net start) (few start) c.loop-i.invariant.1 (low at.In-loop-i) (c.find_teller-p.ensures []) in_net c.bit_if.ensures)
+
+pub loop-i-preserved : goal.loop-i-preserved
+loop-i-preserved c =
+    let at = goal.at.loop-i-preserved c in
+    let start = at.Start in
+    let l = c.loop-i in
+    let teller = c.find_teller-p.ensures [] in (
+      omega (arith, c.loop-i-test.true),
+      elim c.if-p-k.branch [
+        | then-p-k w ↦
+            let in_net : c.find_teller-p.result < (net start).config.k = omega (arith, w.if-p-k.true, same-k start) in
+            rw w.tells-is (tells-next (net start) (few start) l.invariant.1 (low at.In-loop-i) teller in_net w.bit_if.ensures)
+        | else-p-k w ↦ rw w.tells-is (tells_skip (net start) (few start) l.invariant.1 (low at.In-loop-i) teller (omega (arith, w.if-p-k.false, same-k start)))
+      ],
+    )
+
+pub returns-after-loop-i : goal.returns-after-loop-i
+returns-after-loop-i c kept =
+    let l = c.loop-i in
+    let all : l.i ≡ c.args.t.k = omega (arith, l.invariant.0, c.loop-i-test.false) in
+    tells_any c.args.net.now [] kept c.args.t.k l.tells (rw all at l.invariant.1)
+
+pub returns-else-desk-eq-FINISHED : goal.returns-else-desk-eq-FINISHED
+returns-else-desk-eq-FINISHED c kept =
+    let start = (goal.at.returns-else-desk-eq-FINISHED c).Start in
+    let words = c.args.net.now in
+    -- the desk
+    let desk : c.read-desk.result ≡ station (net start) (root_of (net start).config) =
+    c.read-desk.ensures
+    ∙ ap (station (net start)) c.root.ensures
+    ∙ ap (λ (t : Config). station (net start) (root_of t)) c.requires.config in
+    let early : is_reported (net start) ≡ false = ap (λ (s : Station). eqb s.state 2) (sym desk) ∙ ne_eqb _ 2 c.if-desk-eq-FINISHED.false in
+    tells_any words [] kept c.args.t.k _
+    (subst (λ (l : List ℕ). AreTells (net start) c.args.t.k l) (sym c.requires.empty)
+    (subst (λ (n : ℕ). AreTells (net start) n _) (sym (same-k start)) (tells_early (net start) (few start) early)))
