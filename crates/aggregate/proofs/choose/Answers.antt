@@ -5,7 +5,7 @@ use Prim.Native.Nat.{ℕ, min, max}
 use native.Mathlib.Omega.{arith}
 use lib.Dec.{eqb, ltb}
 use borrow.Author.Tests.{eq-eqb, ne_eqb, ltb-true, ltb-false}
-use Rattle.finite.proofs.Cases.{by_bool, by-sum}
+use Rattle.finite.proofs.Cases.{by_bool}
 use Rattle.aggregate.specs.Ways.{greatest, none, chosen_of}
 use Rattle.aggregate.specs.Internal.Joining.{chosen-second, chosen-first, chosen_both}
 use Rattle.aggregate.proofs.choose.Goals as goal

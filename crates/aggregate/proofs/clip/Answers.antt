@@ -1,9 +1,9 @@
 -- `aggregate::clip` meets its contract: class by class, the cell is stored over zeros. Assumes nothing.
 use mathlib.Core.Path.{◌≡◌, refl}
-use Prim.Native.Nat.{◌≤◌, ◌-◌, min}
+use Prim.Native.Nat.{min}
 use lib.ListN.{replicate, get_or-replicate}
 use Rattle.aggregate.specs.Aggregate.{cell, zero_cell, clipped}
-use Rattle.aggregate.proofs.Places.{Storing, storing_none, storing_more, storing_all}
+use Rattle.aggregate.proofs.Places.{storing_none, storing_more, storing_all}
 use native.Mathlib.Omega.{arith}
 use Rattle.aggregate.proofs.clip.Goals as goal
 

@@ -1,10 +1,8 @@
 -- `aggregate::clip` meets its contract: class by class, the cell is stored over zeros. Assumes nothing.
-use mathlib.Core.Path.{◌≡◌, refl}
-use Prim.Native.Nat.{◌≤◌, ◌-◌, min}
-use lib.ListN.{replicate, get_or-replicate}
-use Rattle.aggregate.specs.Aggregate.{cell, zero_cell, clipped}
-use Rattle.aggregate.proofs.Places.{Storing, storing_none, storing_more, storing_all}
-use native.Mathlib.Omega.{arith}
+use Prim.Native.Nat.{◌≤◌, ◌-◌}
+use lib.ListN.{replicate}
+use Rattle.aggregate.specs.Aggregate.{cell}
+use Rattle.aggregate.proofs.Places.{Storing}
 use Rattle.aggregate.proofs.clip.Given as goal
 
 abbrev pub invariant-loop-i : goal.invariant-loop-i

@@ -1,6 +1,5 @@
 -- `aggregate::empty_sum` meets its contract: the test is the definition's. Assumes nothing.
 use mathlib.Core.Path.{sym, ◌∙◌}
-use borrow.Author.Rules.{rules}
 use Rattle.aggregate.specs.Ways.{empty_sum}
 use Rattle.aggregate.proofs.empty_sum.Goals as goal
 

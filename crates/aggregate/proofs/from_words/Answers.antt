@@ -1,11 +1,11 @@
 -- `aggregate::from_words` meets its contract: class by class, its word and the next byte are stored over zeros. Assumes nothing.
 use mathlib.Core.Path.{◌≡◌, refl, sym}
-use Prim.Native.Nat.{◌-◌, ◌%◌, ◌^◌, ◌≤◌, min}
-use lib.ListN.{get_or, drop, replicate, get_or-replicate}
+use Prim.Native.Nat.{◌%◌, ◌^◌, min}
+use lib.ListN.{get_or, replicate, get_or-replicate}
 use Rattle.finite.specs.Numbers.{bytes}
 use Rattle.aggregate.specs.Internal.Joining.{pair}
 use Rattle.aggregate.specs.Aggregate.{zero_cell, from_words}
-use Rattle.aggregate.proofs.Places.{Storing, storing_none, storing_more, storing_all, next_byte}
+use Rattle.aggregate.proofs.Places.{storing_none, storing_more, storing_all, next_byte}
 use native.Mathlib.Omega.{arith}
 use Rattle.aggregate.proofs.from_words.Goals as goal
 

@@ -1,9 +1,9 @@
 -- `aggregate::gather` meets its contract: class by class, the cell of its count is stored over zeros. Assumes nothing.
 use mathlib.Core.Path.{◌≡◌, refl}
-use Prim.Native.Nat.{◌≤◌, ◌-◌, min}
+use Prim.Native.Nat.{min}
 use lib.ListN.{get_or, replicate, get_or-replicate}
 use Rattle.aggregate.specs.Aggregate.{zero_cell, cell_gathered, gathered}
-use Rattle.aggregate.proofs.Places.{Storing, storing_none, storing_more, storing_all}
+use Rattle.aggregate.proofs.Places.{storing_none, storing_more, storing_all}
 use native.Mathlib.Omega.{arith}
 use Rattle.aggregate.proofs.gather.Goals as goal
 

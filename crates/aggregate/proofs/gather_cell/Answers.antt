@@ -1,5 +1,4 @@
 -- `aggregate::gather_cell` meets its contract: the tests are the definition's. Assumes nothing.
-use borrow.Author.Rules.{rules}
 use borrow.Author.Tests.{eq-eqb, ne_eqb}
 use Rattle.aggregate.specs.Ways.{counting}
 use Rattle.aggregate.specs.Aggregate.{cell_gathered}

@@ -1,12 +1,9 @@
 -- `aggregate::is_bounded` meets its contract. The invariant: every class passed is bounded. Assumes nothing.
-use mathlib.Core.Path.{◌≡◌, refl, sym, ap₂, ◌∙◌}
-use mathlib.Core.Bool.{Bool, true, ◌&&◌}
-use Prim.Native.Nat.{◌≤◌, ◌-◌, min}
-use borrow.Author.Tests.{not-true, not-false}
+use mathlib.Core.Path.{◌≡◌}
+use mathlib.Core.Bool.{true}
+use Prim.Native.Nat.{◌≤◌, ◌-◌}
 use Rattle.finite.specs.Below.{all_below}
-use Rattle.finite.proofs.Below.{all_below_more, all_below_fails}
-use Rattle.aggregate.specs.Aggregate.{cell, cell_bounded, bounded}
-use native.Mathlib.Omega.{arith}
+use Rattle.aggregate.specs.Aggregate.{cell, cell_bounded}
 use Rattle.aggregate.proofs.is_bounded.Given as goal
 
 abbrev pub invariant-loop-i : goal.invariant-loop-i

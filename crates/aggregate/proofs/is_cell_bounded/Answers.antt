@@ -4,7 +4,6 @@ use mathlib.Core.Bool.{Bool, ◌&&◌}
 use Prim.Native.Nat.{◌^◌}
 use native.Mathlib.Omega.{arith}
 use lib.Dec.{eqb}
-use borrow.Author.Rules.{rules}
 use borrow.Author.Tests.{le-ltb, le-leb, lt-leb}
 use Rattle.finite.proofs.Cases.{by_bool}
 use Rattle.aggregate.specs.Ways.{none, has_none}

@@ -1,6 +1,5 @@
 -- `aggregate::is_valid` meets its contract: the callees' tests are the definition's. Assumes nothing.
 use Rattle.aggregate.specs.Aggregate.{valid}
-use borrow.Author.Rules.{rules}
 use Rattle.aggregate.proofs.is_valid.Goals as goal
 
 pub returns : goal.returns

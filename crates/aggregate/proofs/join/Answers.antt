@@ -1,9 +1,9 @@
 -- `aggregate::join` meets its contract: class by class, the joined cell is stored over the first's places. Assumes nothing.
 use mathlib.Core.Path.{◌≡◌, refl, sym, ap, ap₂, ◌∙◌}
 use mathlib.Core.Bool.{Bool, true, false, not, ◌&&◌}
-use Prim.Native.Nat.{ℕ, ◌+◌, ◌≤◌, ◌<◌, ◌-◌, min}
-use lib.ListN.{length, length-map}
-use borrow.Author.Tests.{not-true, not-false}
+use Prim.Native.Nat.{ℕ, ◌+◌, ◌≤◌, ◌<◌, min}
+use lib.ListN.{length}
+use borrow.Author.Tests.{not-true}
 use Rattle.finite.specs.Below.{all_below}
 use Rattle.finite.proofs.Cases.{by_bool, clash, and_both}
 use Rattle.finite.proofs.Below.{all_below_more}
@@ -11,7 +11,7 @@ use Rattle.aggregate.specs.declared.Config.{Config}
 use Rattle.aggregate.specs.declared.Aggregate.{Aggregate}
 use Rattle.aggregate.specs.Aggregate.{used, cell, cell_bounded, bounded, cell_joined, joined, joinable}
 use Rattle.aggregate.specs.Internal.Joining.{pair}
-use Rattle.aggregate.proofs.Places.{Storing, storing_none, storing_more, storing_all}
+use Rattle.aggregate.proofs.Places.{storing_none, storing_more, storing_all}
 use Rattle.aggregate.proofs.Laws.{cell_parts, bounded_at}
 use native.Mathlib.Omega.{arith}
 use Rattle.aggregate.proofs.join.Goals as goal

@@ -2,7 +2,6 @@
 use mathlib.Core.Path.{refl, sym, ◌∙◌}
 use native.Mathlib.Omega.{arith}
 use lib.Dec.{eqb}
-use borrow.Author.Rules.{rules}
 use Rattle.finite.proofs.Cases.{clash, by_bool}
 use Rattle.aggregate.specs.Ways.{greatest, sum_joined}
 use Rattle.aggregate.proofs.Laws.{plain_small}

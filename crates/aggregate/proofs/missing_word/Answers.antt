@@ -4,13 +4,12 @@ use mathlib.Core.List.{List, ◌∷◌}
 use Prim.Native.Nat.{ℕ, suc, ◌+◌, ◌*◌, ◌-◌, ◌/◌, ◌%◌, ◌^◌, ◌≤◌, ◌<◌}
 use lib.Arith.{digits_div, digits_mod}
 use lib.Dec.{lit<}
-use lib.ListN.{length, get_or, drop, length-map}
+use lib.ListN.{length, get_or, drop}
 use lib.Seq.{drop-cons, drop-length}
 use lib.Pow.{pow_mono}
 use Rattle.finite.specs.Numbers.{number, bytes}
 use Rattle.finite.proofs.Digits.{power_more}
 use Rattle.aggregate.specs.Aggregate.{missing_word}
-use borrow.Author.Rules.{rules}
 use native.Mathlib.Omega.{arith}
 use Rattle.aggregate.proofs.missing_word.Goals as goal
 

@@ -1,8 +1,8 @@
 -- `aggregate::of_words` meets its contract: byte by byte, the missing number is stored over zero. Assumes nothing.
 use mathlib.Core.Path.{◌≡◌, refl, sym, ap, ◌∙◌}
 use mathlib.Core.List.{List}
-use Prim.Native.Nat.{ℕ, ◌-◌, ◌≤◌}
-use lib.ListN.{length, get_or, drop, replicate, length-set}
+use Prim.Native.Nat.{ℕ}
+use lib.ListN.{get_or, replicate, length-set}
 use Rattle.finite.specs.Numbers.{bytes}
 use Rattle.finite.proofs.Below.{stored, stored_more}
 use Rattle.aggregate.proofs.Places.{next_byte}

@@ -1,12 +1,9 @@
 -- `aggregate::of_words` meets its contract: byte by byte, the missing number is stored over zero. Assumes nothing.
-use mathlib.Core.Path.{◌≡◌, refl, sym, ap, ◌∙◌}
-use mathlib.Core.List.{List}
-use Prim.Native.Nat.{ℕ, ◌-◌, ◌≤◌}
-use lib.ListN.{length, get_or, drop, replicate, length-set}
+use mathlib.Core.Path.{◌≡◌}
+use Prim.Native.Nat.{◌-◌, ◌≤◌}
+use lib.ListN.{length, get_or, drop, replicate}
 use Rattle.finite.specs.Numbers.{bytes}
-use Rattle.finite.proofs.Below.{stored, stored_more}
-use Rattle.aggregate.proofs.Places.{next_byte}
-use native.Mathlib.Omega.{arith}
+use Rattle.finite.proofs.Below.{stored}
 use Rattle.aggregate.proofs.of_words.Given as goal
 
 abbrev pub invariant-loop-i : goal.invariant-loop-i

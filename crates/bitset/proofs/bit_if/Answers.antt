@@ -2,7 +2,6 @@
 use native.Mathlib.Nat.{one-mul, mod-eq_of_lt}
 use lib.Pow.{pow-lt}
 use borrow.Author.Tests.{le-ltb, lt-ltb}
-use borrow.Author.Rules.{rules}
 use Rattle.bitset.specs.Set.{bit_if}
 use Rattle.bitset.proofs.bit_if.Goals as goal
 

@@ -1,7 +1,6 @@
 -- `bitset::contains` meets its contract: a shift and a remainder are the definition, and past 63 there is no member.
 -- Assumes nothing.
 use mathlib.Core.Path.{refl, sym}
-use borrow.Author.Rules.{rules}
 use Rattle.bitset.specs.Set.{member}
 use Rattle.bitset.proofs.Laws.{no_member-from}
 use Rattle.bitset.proofs.contains.Goals as goal

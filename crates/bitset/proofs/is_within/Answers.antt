@@ -1,6 +1,5 @@
 -- `bitset::is_within` meets its contract: no member is k or more just where a shift by k leaves nothing. Assumes nothing.
 use mathlib.Core.Path.{sym}
-use borrow.Author.Rules.{rules}
 use Rattle.bitset.proofs.Laws.{within_shift, within_width}
 use Rattle.bitset.proofs.is_within.Goals as goal
 

@@ -1,5 +1,4 @@
 -- `bitset::put` meets its contract: call by call. Assumes nothing.
-use borrow.Author.Rules.{rules}
 use Rattle.bitset.specs.Set.{put}
 use Rattle.bitset.proofs.put.Goals as goal
 

@@ -6,7 +6,6 @@ use Prim.Native.Nat.{◌*◌, ◌%◌, ◌^◌, ◌<◌}
 use native.Mathlib.Nat.{one-mul, mod-eq_of_lt}
 use native.Mathlib.Omega.{arith}
 use lib.Pow.{pow-lt}
-use borrow.Author.Rules.{rules}
 use Rattle.bitset.specs.Set.{member, without}
 use Rattle.bitset.proofs.Bits.{member_worth}
 use Rattle.bitset.proofs.Laws.{member_below}
