@@ -63,7 +63,8 @@ failed t a b i l p q e f h =
 pub returns-then-not-is_cell_bounded : goal.returns-then-not-is_cell_bounded
 returns-then-not-is_cell_bounded c =
     let l = c.loop-class in
-    let e = failed c.args.t c.args.a c.args.b l.class (omega arith) _ _ c.is_cell_bounded.ensures c.is_cell_bounded-in-loop-class.ensures (ap not c.if-not-is_cell_bounded.true) in
+    let e = failed c.args.t c.args.a c.args.b l.class (omega arith) _ _ c.is_cell_bounded.ensures
+    c.is_cell_bounded-in-loop-class.ensures (ap not c.if-not-is_cell_bounded.true) in
     record { bounded = sym e; held = rw e }
 
 -- past the test both are

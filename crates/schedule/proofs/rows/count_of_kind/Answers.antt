@@ -10,8 +10,10 @@ left : (c : In-Beyond) → let a = c.args in
     (c.in-Beyond.left ≡ 65535 - size_of a.rows.now a.k a.kind) × (size_of a.rows.now a.k a.kind ≤ 65535)
 left c =
     let a = c.args in
-    let low : a.k ≤ 255 = omega (arith, c.ranges.k.fits) in
-    (past-left (sym c.in-Beyond.is ∙ c.find_of_kind-found.ensures ∙ searched_past a.rows.now a.k a.kind low), omega (arith, size_few a.rows.now a.k a.kind low))
+    let low : a.k ≤ 255 = omega (arith, c.ranges.k.fits) in (
+      past-left (sym c.in-Beyond.is ∙ c.find_of_kind-found.ensures ∙ searched_past a.rows.now a.k a.kind low),
+      omega (arith, size_few a.rows.now a.k a.kind low),
+    )
 
 pub overflow_sub-result : goal.overflow_sub-result
 overflow_sub-result c = omega (arith, (left (goal.at.overflow_sub-result c).In-Beyond).0)

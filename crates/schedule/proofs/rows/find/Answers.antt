@@ -15,7 +15,8 @@ returns-then-second-sizes c =
 pub returns-then-third-sizes : goal.returns-then-third-sizes
 unfolding entry_by_size
 returns-then-third-sizes c =
-    rw (le-ltb _ _ c.if-index-sizes.false, le-ltb _ _ c.if-second-sizes.false, lt-ltb _ _ c.if-third-sizes.true) c.find_of_kind-then-third-sizes.ensures
+    rw (le-ltb _ _ c.if-index-sizes.false, le-ltb _ _ c.if-second-sizes.false, lt-ltb _ _ c.if-third-sizes.true)
+    c.find_of_kind-then-third-sizes.ensures
 
 pub returns : goal.returns
 unfolding entry_by_size

@@ -7,7 +7,8 @@ use Rattle.schedule.specs.Rows.{in_rows}
 use Rattle.schedule.proofs.Scan.{senders_end, row-start, row_passed, row-end, met, passed, skipped, all_past}
 use Rattle.schedule.proofs.RowLists.{row_length_lem}
 use Rattle.schedule.proofs.rows.find_of_kind.Goals as goal
-use Rattle.schedule.proofs.rows.find_of_kind.Goals.{then-members-left, else-members-left, then-contains+else-left-eq0, else-contains, else-scan-test, then-scan-test+then-loop-receiver-test+else-set-receiver-eq0+then-contains+then-left-eq0}
+use Rattle.schedule.proofs.rows.find_of_kind.Goals.{then-members-left, else-members-left, then-contains+else-left-eq0, else-contains, else-scan-test}
+use Rattle.schedule.proofs.rows.find_of_kind.Goals.{then-scan-test+then-loop-receiver-test+else-set-receiver-eq0+then-contains+then-left-eq0}
 
 pub scan-init : goal.scan-init
 scan-init c = record { same = refl }
@@ -31,7 +32,9 @@ unfolding in_rows
 loop-receiver-preserved-then-set-receiver-eq0 c =
     let l = c.loop-receiver in
     let row = c.row_at-set in
-    all_past l.receiver 8 (λ i h. ap (member (l.receiver + i)) (sym row.ensures) ∙ none_of_eight l.receiver _ c.if-set-receiver-eq0.true i h) l.invariant
+    all_past l.receiver 8
+    (λ i h. ap (member (l.receiver + i)) (sym row.ensures) ∙ none_of_eight l.receiver _ c.if-set-receiver-eq0.true i h)
+    l.invariant
 
 pub loop-receiver-preserved : goal.loop-receiver-preserved
 unfolding in_rows
