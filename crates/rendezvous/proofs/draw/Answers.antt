@@ -7,9 +7,6 @@ use lib.ListN.{get_or, set, length-replicate}
 use borrow.Author.Tests.{not-true, not-false}
 use Rattle.aggregate.specs.declared.Config.{Config}
 use Rattle.aggregate.specs.Aggregate.{root_of}
-use Rattle.schedule.specs.Rules.{in_range, allowed}
-use Rattle.schedule.specs.Listing.{listed}
-use Rattle.schedule.specs.Draws.{picked}
 use Rattle.schedule.specs.Outcome.{step_made}
 use Rattle.schedule.proofs.Answers.{allowed_parts}
 use Rattle.schedule.proofs.Outcomes.{draw_unformed}

@@ -1,24 +1,22 @@
 -- `rendezvous::run` meets its contract. Invariant (`Going`): the net reached is well-formed, and the run is one from it, after the steps made, by
 -- the draws that are left; what its stations may send and its rows are known. Assumes nothing.
 use mathlib.Core.Path.{◌≡◌, refl, sym, ◌∙◌, ap, subst}
-use mathlib.Core.Bool.{Bool, true}
+use mathlib.Core.Bool.{Bool}
 use mathlib.Core.List.{List}
-use Prim.Native.Nat.{ℕ, ◌-◌, ◌/◌, ◌^◌, ◌≤◌, ◌<◌}
+use Prim.Native.Nat.{ℕ, ◌/◌, ◌^◌, ◌≤◌, ◌<◌}
 use native.Mathlib.Omega.{arith}
-use lib.ListN.{length, get_or, set, length-replicate}
+use lib.ListN.{get_or, set, length-replicate}
 use borrow.Author.Tests.{not-true, not-false}
-use Rattle.finite.proofs.Cases.{by-sum}
 use Rattle.aggregate.specs.declared.Config.{Config}
 use Rattle.schedule.specs.Listing.{listed}
 use Rattle.schedule.specs.Draws.{picked}
 use Rattle.schedule.proofs.Running.{outcome_of, run_starts, barred_with, used_up_with}
-use Rattle.stations.specs.Words.{spare_in}
 use Rattle.stations.proofs.Words.{length-stations}
-use Rattle.rendezvous.specs.Net.{Net, net_in, well_formed}
+use Rattle.rendezvous.specs.Net.{net_in}
 use Rattle.rendezvous.specs.Rules.{rules}
 use Rattle.rendezvous.proofs.Laws.{k_most}
 use Rattle.rendezvous.proofs.RowSets.{picked-flat}
-use Rattle.rendezvous.proofs.Going.{Going, held-told, filled, config_low, rests, both_low, sender-low, receiver-low, joins, ends_outside, agree}
+use Rattle.rendezvous.proofs.Going.{held-told, filled, config_low, rests, both_low, sender-low, receiver-low, joins, ends_outside, agree}
 use Rattle.rendezvous.proofs.Going.{others_hold, goes_further}
 use Rattle.rendezvous.proofs.run.Goals as goal
 use Rattle.rendezvous.proofs.run.Goals.{After-make-arg-in-loop-made-1, then-carrying_in-eq-CARRYING, else-carrying_in-eq-CARRYING}

@@ -3,7 +3,6 @@ use borrow.Author.Tests.{ne_eqb}
 use Rattle.rendezvous.specs.Internal.Receivers.{sent_by}
 use mathlib.Core.Path.{◌≡◌}
 use native.Mathlib.Omega.{arith}
-use borrow.Author.Rules.{rules}
 use Rattle.rendezvous.proofs.figure.send.Goals as goal
 
 pub returns-in-1 : goal.returns-in-1

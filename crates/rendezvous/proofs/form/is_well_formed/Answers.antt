@@ -12,7 +12,7 @@ use Rattle.aggregate.proofs.Laws.{valid-k}
 use Rattle.stations.specs.Kept.{kept_read}
 use Rattle.rendezvous.specs.Net.{net_in}
 use Rattle.rendezvous.specs.Internal.Receivers.{place_formed}
-use Rattle.rendezvous.proofs.FormAfter.{placed, barred_config, barred_place, all_placed, place_read, unformed_flag}
+use Rattle.rendezvous.proofs.FormAfter.{barred_config, barred_place, all_placed, place_read, unformed_flag}
 use Rattle.rendezvous.proofs.form.is_well_formed.Goals as goal
 use Rattle.rendezvous.proofs.form.is_well_formed.Goals.{then-carrying-eq-CARRYING, else-carrying-eq-CARRYING}
 use Rattle.rendezvous.proofs.form.is_well_formed.Goals.{Else-carrying-gt-CARRYING, Else-not-is_valid, In-loop-i}

@@ -1,17 +1,10 @@
 -- `rendezvous::form::is_well_formed` meets its contract. Invariant: the places below i are in form; one that is not ends it. Assumes nothing.
-use mathlib.Core.Path.{◌≡◌, refl, sym, ap, ◌∙◌}
+use mathlib.Core.Path.{◌≡◌}
 use mathlib.Core.Bool.{true}
-use Prim.Native.Nat.{◌-◌, ◌≤◌, ◌<◌}
-use native.Mathlib.Omega.{arith}
-use borrow.Author.Tests.{not-true, not-false, eq-eqb, ne_eqb}
+use Prim.Native.Nat.{◌-◌, ◌≤◌}
 use Rattle.finite.specs.Below.{all_below}
-use Rattle.finite.proofs.Below.{all_below_more}
-use Rattle.finite.proofs.Cases.{by-sum}
-use Rattle.aggregate.specs.declared.Config.{Config}
-use Rattle.aggregate.specs.Aggregate.{valid}
-use Rattle.aggregate.proofs.Laws.{valid-k}
-use Rattle.rendezvous.specs.Net.{Net, net_in}
-use Rattle.rendezvous.proofs.FormAfter.{placed, barred_config, barred_place, all_placed, place_read, unformed_flag}
+use Rattle.rendezvous.specs.Net.{net_in}
+use Rattle.rendezvous.proofs.FormAfter.{placed}
 use Rattle.rendezvous.proofs.form.is_well_formed.Given as goal
 
 abbrev pub invariant-loop-i : goal.invariant-loop-i

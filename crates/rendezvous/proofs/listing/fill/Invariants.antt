@@ -1,9 +1,7 @@
 -- `rendezvous::listing::fill` meets its contract. Invariant: the rows of the senders below `sender` are stored and counted. Assumes nothing.
-use mathlib.Core.Path.{◌≡◌}
 use Prim.Native.Nat.{◌-◌, ◌≤◌}
-use native.Mathlib.Omega.{arith}
 use Rattle.rendezvous.specs.Internal.Receivers.{kept_at}
-use Rattle.rendezvous.proofs.Filling.{Filling, filling_none, filling_next, filling_all}
+use Rattle.rendezvous.proofs.Filling.{Filling}
 use Rattle.rendezvous.proofs.listing.fill.Given as goal
 
 abbrev pub invariant-loop-sender : goal.invariant-loop-sender

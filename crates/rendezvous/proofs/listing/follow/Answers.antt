@@ -2,16 +2,16 @@
 -- station of the step. Assumes nothing.
 use mathlib.Core.Path.{◌≡◌, ◌∙◌, ap₂}
 use mathlib.Core.Logic.{inl}
-use Prim.Native.Nat.{ℕ, ◌-◌, ◌^◌, ◌≤◌, ◌<◌}
+use Prim.Native.Nat.{ℕ, ◌^◌, ◌<◌}
 use native.Mathlib.Omega.{arith}
 use lib.Dec.{eqb}
 use borrow.Author.Tests.{eqb-true}
-use Rattle.finite.proofs.Cases.{and_both, by-sum}
+use Rattle.finite.proofs.Cases.{and_both}
 use Rattle.bitset.specs.Set.{union}
 use Rattle.schedule.specs.Internal.Rows.{Others}
 use Rattle.schedule.proofs.Resizing.{others_or_two}
 use Rattle.rendezvous.specs.Internal.Receivers.{kept_at, HoldSome}
-use Rattle.rendezvous.proofs.Following.{held_anew, hold_all, Passed, rows_stand, passed_none, passed_missing, passed_anew}
+use Rattle.rendezvous.proofs.Following.{held_anew, hold_all, rows_stand, passed_none, passed_missing, passed_anew}
 use Rattle.rendezvous.proofs.listing.follow.Goals as goal
 use Rattle.rendezvous.proofs.listing.follow.Goals.{then-met-ne0, else-met-ne0, In-loop-x}
 

@@ -3,13 +3,13 @@
 use mathlib.Core.Path.{◌≡◌, refl, sym, ◌∙◌, ap, ap₂, subst}
 use mathlib.Core.Bool.{Bool, true, false}
 use mathlib.Core.List.{List}
-use Prim.Native.Nat.{ℕ, ◌+◌, ◌-◌, ◌≤◌, ◌<◌, ◌^◌}
+use Prim.Native.Nat.{ℕ, ◌+◌, ◌≤◌, ◌<◌, ◌^◌}
 use native.Mathlib.Omega.{arith}
 use lib.Dec.{eqb}
-use borrow.Author.Tests.{not-true, not-false, eq-eqb, ne_eqb}
+use borrow.Author.Tests.{eq-eqb, ne_eqb}
 use Rattle.finite.specs.Below.{all_below}
 use Rattle.finite.proofs.Below.{all_below_more}
-use Rattle.finite.proofs.Cases.{clash, by-sum}
+use Rattle.finite.proofs.Cases.{clash}
 use Rattle.bitset.specs.Set.{bit_if}
 use Rattle.bitset.specs.Internal.Selected.{set_of}
 use Rattle.bitset.proofs.Selected.{set_next}

@@ -1,28 +1,18 @@
 -- `rendezvous::listing::survey` meets its contract. Invariant: the stations below j are in form, both sets are of them, and what they may send is
 -- kept; one that is not in form ends it. Assumes nothing.
-use mathlib.Core.Path.{◌≡◌, refl, sym, ◌∙◌, ap, ap₂, subst}
+use mathlib.Core.Path.{◌≡◌, sym, ◌∙◌}
 use mathlib.Core.Bool.{Bool, true, false}
 use mathlib.Core.List.{List}
-use Prim.Native.Nat.{ℕ, ◌+◌, ◌-◌, ◌≤◌, ◌<◌, ◌^◌}
-use native.Mathlib.Omega.{arith}
+use Prim.Native.Nat.{ℕ, ◌-◌, ◌≤◌}
 use lib.Dec.{eqb}
-use borrow.Author.Tests.{not-true, not-false, eq-eqb, ne_eqb}
 use Rattle.finite.specs.Below.{all_below}
-use Rattle.finite.proofs.Below.{all_below_more}
-use Rattle.finite.proofs.Cases.{clash, by-sum}
-use Rattle.bitset.specs.Set.{bit_if}
+use Rattle.finite.proofs.Cases.{clash}
 use Rattle.bitset.specs.Internal.Selected.{set_of}
-use Rattle.bitset.proofs.Selected.{set_next}
-use Rattle.aggregate.specs.declared.Config.{Config}
-use Rattle.aggregate.specs.Aggregate.{valid}
-use Rattle.aggregate.proofs.Laws.{valid-k}
-use Rattle.station.specs.declared.Station.{Station}
 use Rattle.station.specs.Events as events
 use Rattle.rendezvous.specs.declared.listing.States.{States}
 use Rattle.rendezvous.specs.Net.{Net, net_in, station, well_formed}
-use Rattle.rendezvous.specs.Internal.Receivers.{in_state, sends_of, AreSends, Surveyed}
-use Rattle.rendezvous.proofs.Kept.{kept_none, kept_next}
-use Rattle.rendezvous.proofs.FormAfter.{placed, barred_config, barred_place, all_placed, place_read, unformed_flag}
+use Rattle.rendezvous.specs.Internal.Receivers.{AreSends, Surveyed}
+use Rattle.rendezvous.proofs.FormAfter.{placed}
 use Rattle.rendezvous.proofs.listing.survey.Given as goal
 
 -- those of the stations below i in a state
