@@ -20,7 +20,8 @@ use Rattle.aggregate.specs.declared.Aggregate.{Aggregate}
 use Rattle.aggregate.specs.Ways.{is_way, none, has_none}
 use Rattle.aggregate.specs.Aggregate.{root_of, is_class_count, valid, used, cell, places, zero_cell, nothing, sum_bounded, cell_bounded, bounded}
 use Rattle.aggregate.specs.Aggregate.{cell_gathered, gathered, cell_joined, empty_cell, joined, clipped}
-use Rattle.aggregate.specs.Internal.Joining.{pair, cell_empty, cells, joining}
+use Rattle.aggregate.specs.Internal.Joining.{cells}
+use Rattle.aggregate.proofs.Joining.{pair, cell_empty, joining}
 
 -- so many classes
 pub class_count : (c : ℕ) → is_class_count c ≡ true → (1 ≤ c) × (c ≤ 8)

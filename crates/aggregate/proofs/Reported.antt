@@ -12,7 +12,7 @@ use Rattle.finite.proofs.Cases.{clash, by_bool, by_eq, by-sum}
 use Rattle.aggregate.specs.Ways.{none, chosen_of, sum_joined, empty_sum}
 use Rattle.aggregate.specs.Aggregate.{is_missing}
 use Rattle.aggregate.specs.Reported.{LastReading, Last, Reported}
-use Rattle.aggregate.specs.Internal.Joining.{Choice, choice-max, choice-min, chosen_both, chosen-first, chosen-second, joining_sums, joining_cells}
+use Rattle.aggregate.proofs.Joining.{Choice, choice-max, choice-min, chosen_both, chosen-first, chosen-second, joining_sums, joining_cells}
 use Rattle.aggregate.proofs.Totals.{given, given_sum, sum-total, missing-total}
 
 -- a choice of the last in an order

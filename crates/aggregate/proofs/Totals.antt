@@ -17,7 +17,8 @@ use Rattle.aggregate.specs.declared.Cell.{Cell}
 use Rattle.aggregate.specs.declared.Aggregate.{Aggregate}
 use Rattle.aggregate.specs.Ways.{counting, none, has_none, chosen_of, sum_joined, empty_sum, read_sum}
 use Rattle.aggregate.specs.Aggregate.{used, sum_bounded, cell_bounded, bounded, is_missing, cell_gathered, gathered, cell_joined, empty_cell}
-use Rattle.aggregate.specs.Internal.Joining.{by_way, Choice, choice-max, choice-min, chosen_both, chosen-first, chosen-second, joining_sums, joining_cells, cells, joining}
+use Rattle.aggregate.specs.Internal.Joining.{cells}
+use Rattle.aggregate.proofs.Joining.{by_way, Choice, choice-max, choice-min, chosen_both, chosen-first, chosen-second, joining_sums, joining_cells, joining}
 use Rattle.aggregate.proofs.Laws.{parts_bounded, small_bounded, none_allowed, cells-gathered, bounded-cells}
 
 -- one class of some of k stations, by their counts

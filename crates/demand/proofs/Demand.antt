@@ -13,7 +13,8 @@ use Rattle.finite.proofs.Cases.{by_bool}
 use Rattle.aggregate.specs.declared.Cell.{Cell}
 use Rattle.aggregate.specs.Aggregate.{root_of, cell}
 use Rattle.aggregate.specs.Reported.{Reported}
-use Rattle.aggregate.specs.Internal.Joining.{cells, joining}
+use Rattle.aggregate.specs.Internal.Joining.{cells}
+use Rattle.aggregate.proofs.Joining.{joining}
 use Rattle.aggregate.proofs.Reported as words
 use Rattle.wave.specs.Internal.Wave.{report}
 use Rattle.wave.specs.Internal.Claim.{times, AtRest, WaveClaim}

@@ -17,7 +17,8 @@ use Rattle.aggregate.specs.declared.Cell.{Cell}
 use Rattle.aggregate.specs.declared.Aggregate.{Aggregate}
 use Rattle.aggregate.specs.Ways.{is_way}
 use Rattle.aggregate.specs.Aggregate.{root_of, is_class_count, bounded}
-use Rattle.aggregate.specs.Internal.Joining.{cells, joining}
+use Rattle.aggregate.specs.Internal.Joining.{cells}
+use Rattle.aggregate.proofs.Joining.{joining}
 use Rattle.wave.specs.Internal.Wave.{State, next, Weak}
 use Rattle.wave.proofs.Invariant.{Inv}
 use Rattle.wave.specs.Internal.Wave as wave

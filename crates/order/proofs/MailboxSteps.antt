@@ -17,7 +17,8 @@ use Rattle.aggregate.specs.declared.Config.{Config}
 use Rattle.aggregate.specs.declared.Cell.{Cell}
 use Rattle.aggregate.specs.declared.Aggregate.{Aggregate}
 use Rattle.aggregate.specs.Aggregate.{root_of, clipped}
-use Rattle.aggregate.specs.Internal.Joining.{cells, joining}
+use Rattle.aggregate.specs.Internal.Joining.{cells}
+use Rattle.aggregate.proofs.Joining.{joining}
 use Rattle.aggregate.proofs.Laws.{cells-joined, cells-clipped}
 use Rattle.aggregate.proofs.Words.{FitsWord}
 use Rattle.wave.specs.Internal.Graph.{Graph}

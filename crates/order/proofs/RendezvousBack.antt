@@ -20,7 +20,8 @@ use Rattle.aggregate.specs.declared.Reading.{Reading}
 use Rattle.aggregate.specs.declared.Aggregate.{Aggregate}
 use Rattle.aggregate.specs.Ways.{is_way}
 use Rattle.aggregate.specs.Aggregate.{root_of, is_class_count, bounded, cell, empty_cell, nothing, absent, clipped}
-use Rattle.aggregate.specs.Internal.Joining.{joining_cells, cells, joining}
+use Rattle.aggregate.specs.Internal.Joining.{cells}
+use Rattle.aggregate.proofs.Joining.{joining_cells, joining}
 use Rattle.aggregate.proofs.Laws.{cells-clipped, bounded-same, nothing-bounded}
 use Rattle.wave.specs.Internal.Graph.{Graph}
 use Rattle.wave.specs.Internal.Wave.{State}

@@ -11,7 +11,8 @@ use Rattle.aggregate.specs.declared.Config.{Config}
 use Rattle.aggregate.specs.declared.Cell.{Cell}
 use Rattle.aggregate.specs.Ways.{is_way}
 use Rattle.aggregate.specs.Aggregate.{root_of}
-use Rattle.aggregate.specs.Internal.Joining.{cells, joining}
+use Rattle.aggregate.specs.Internal.Joining.{cells}
+use Rattle.aggregate.proofs.Joining.{joining}
 use Rattle.station.specs.declared.Station.{Station}
 use Rattle.station.specs.Events.{asleep}
 use Rattle.wave.specs.Internal.Graph.{Graph}

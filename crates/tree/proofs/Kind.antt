@@ -17,7 +17,8 @@ use Rattle.aggregate.specs.declared.Config.{Config}
 use Rattle.aggregate.specs.declared.Cell.{Cell}
 use Rattle.aggregate.specs.declared.Aggregate.{Aggregate}
 use Rattle.aggregate.specs.Aggregate.{cell}
-use Rattle.aggregate.specs.Internal.Joining.{joining_cells, cells, joining}
+use Rattle.aggregate.specs.Internal.Joining.{cells}
+use Rattle.aggregate.proofs.Joining.{joining_cells, joining}
 use Rattle.station.specs.Events.{asleep}
 use Rattle.wave.specs.Internal.Graph.{Graph}
 use Rattle.wave.specs.Internal.Wave.{State, message, report}

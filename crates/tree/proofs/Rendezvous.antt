@@ -8,7 +8,8 @@ use Rattle.finite.proofs.Cases.{by_eq, and_both}
 use borrow.Author.Tests.{eqb-true}
 use Rattle.aggregate.specs.declared.Cell.{Cell}
 use Rattle.aggregate.specs.Ways.{is_way}
-use Rattle.aggregate.specs.Internal.Joining.{cells, joining}
+use Rattle.aggregate.specs.Internal.Joining.{cells}
+use Rattle.aggregate.proofs.Joining.{joining}
 use Rattle.wave.specs.Internal.Graph.{Graph}
 use Rattle.wave.specs.Internal.Wave.{State, message, answers, CanSend, Weak}
 use Rattle.wave.proofs.Invariant.{Inv, spent}

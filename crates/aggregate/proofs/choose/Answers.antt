@@ -7,7 +7,7 @@ use lib.Dec.{eqb, ltb}
 use borrow.Author.Tests.{eq-eqb, ne_eqb, ltb-true, ltb-false}
 use Rattle.finite.proofs.Cases.{by_bool}
 use Rattle.aggregate.specs.Ways.{greatest, none, chosen_of}
-use Rattle.aggregate.specs.Internal.Joining.{chosen-second, chosen-first, chosen_both}
+use Rattle.aggregate.proofs.Joining.{chosen-second, chosen-first, chosen_both}
 use Rattle.aggregate.proofs.choose.Goals as goal
 use Rattle.aggregate.proofs.choose.Goals.{then-way-eq-GREATEST, else-way-eq-GREATEST}
 

@@ -1,7 +1,7 @@
 -- `aggregate::class_of` meets its contract: past the eight places there is nothing. Assumes nothing.
 use mathlib.Core.Path.{◌≡◌, sym}
 use lib.ListN.{length, get_or-eq_default}
-use Rattle.aggregate.specs.Internal.Joining.{pair}
+use Rattle.aggregate.proofs.Joining.{pair}
 use native.Mathlib.Omega.{arith}
 use Rattle.aggregate.proofs.class_of.Goals as goal
 

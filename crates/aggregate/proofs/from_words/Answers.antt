@@ -3,7 +3,7 @@ use mathlib.Core.Path.{◌≡◌, refl, sym}
 use Prim.Native.Nat.{◌%◌, ◌^◌, min}
 use lib.ListN.{get_or, replicate, get_or-replicate}
 use Rattle.finite.specs.Numbers.{bytes}
-use Rattle.aggregate.specs.Internal.Joining.{pair}
+use Rattle.aggregate.proofs.Joining.{pair}
 use Rattle.aggregate.specs.Aggregate.{zero_cell, from_words}
 use Rattle.aggregate.proofs.Places.{storing_none, storing_more, storing_all, next_byte}
 use native.Mathlib.Omega.{arith}

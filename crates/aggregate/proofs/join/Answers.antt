@@ -10,7 +10,7 @@ use Rattle.finite.proofs.Below.{all_below_more}
 use Rattle.aggregate.specs.declared.Config.{Config}
 use Rattle.aggregate.specs.declared.Aggregate.{Aggregate}
 use Rattle.aggregate.specs.Aggregate.{used, cell, cell_bounded, bounded, cell_joined, joined, joinable}
-use Rattle.aggregate.specs.Internal.Joining.{pair}
+use Rattle.aggregate.proofs.Joining.{pair}
 use Rattle.aggregate.proofs.Places.{storing_none, storing_more, storing_all}
 use Rattle.aggregate.proofs.Laws.{cell_parts, bounded_at}
 use native.Mathlib.Omega.{arith}

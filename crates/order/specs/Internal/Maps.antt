@@ -4,7 +4,8 @@ use Rattle.std.specs.Prelude.{◌≡◌, List, map, ℕ, ◌<◌}
 use Rattle.aggregate.specs.declared.Cell.{Cell}
 use Rattle.aggregate.specs.declared.Aggregate.{Aggregate}
 use Rattle.aggregate.specs.Aggregate.{cell, gathered}
-use Rattle.aggregate.specs.Internal.Joining.{cells, joining}
+use Rattle.aggregate.specs.Internal.Joining.{cells}
+use Rattle.aggregate.proofs.Joining.{joining}
 use Rattle.wave.specs.Internal.Wave.{report}
 use Rattle.wave.specs.Internal.Claim.{times}
 use Rattle.topology.specs.Answer.{accepted}
