@@ -5,3 +5,4 @@ pub mod Few
 pub mod Outputs
 pub mod Answers
 pub mod Inputs
+pub mod Serving

@@ -1,17 +1,18 @@
-// Standard input and standard output. No contract can say what is read or written: what the one write is handed is pinned by what it
-// requires. A call that moves less than it was asked to is followed by another, and one that fails is said on standard error.
-ghost use Rattle.std.specs.Prelude.{◌≡◌, ◌≤◌, length};
+// Standard input and standard output. What a run takes and gives is said of a reader and a writer that tell their bytes (`serve`); no
+// contract can say what the system's streams take or give. What the write is handed is pinned by what it requires. A call that moves less
+// than it was asked to is followed by another, and one that fails is said on standard error.
+ghost use Rattle.std.specs.Prelude.{◌≡◌, ◌≤◌, length, take, IfOk, IfSome};
+ghost use Rattle.std.specs.Io.{ReadsAtMost, WritesAtMost};
+ghost use Rattle.std.specs.Io.KnownBytes.{ReadConsumes, WriteAppends};
 ghost use Rattle.program.specs.Output.{output_of, output_room};
-ghost use Rattle.program.specs.Running.{Within, input_room};
+ghost use Rattle.program.specs.Running.{Within, input_room, Writes, Serves};
 
 use crate::{OUTPUT_ROOM, put_output};
-use libc::{EINTR, STDERR_FILENO, STDIN_FILENO, STDOUT_FILENO};
+use std::io;
+use std::io::{Error, ErrorKind, Read, Write};
 
 // One byte more than an input may have, so that a longer one is seen.
 const INPUT_ROOM: usize = opening::MOST_BYTES + 1;
-
-// How often a call that a signal interrupted is made again: for ever, as far as anyone can tell.
-const TRIES: u64 = 18446744073709551615;
 
 // All of the input, so many bytes, or a read failed.
 #[derive(Clone, Copy)]
@@ -20,106 +21,141 @@ pub enum Input {
     Failed,
 }
 
-// Whether a call that gave this answer was interrupted by a signal before it moved a byte.
-fn is_interrupted(answer: isize) -> bool {
-    if answer >= 0 {
-        return false;
-    }
-    os::errno() == EINTR
+// What a run comes to.
+#[derive(Clone, Copy)]
+pub enum Served {
+    // So many bytes were read, and their output is written.
+    Whole(usize),
+    // A read failed.
+    Unread(Error),
+    // So many bytes were read, and a write failed or took nothing.
+    Unwritten(usize, Error),
 }
 
-// One read, made again where it was interrupted.
-fn read_some(buf: &mut [u8]) -> isize {
-    let mut tries = TRIES;
-    let mut got = libc::read(STDIN_FILENO, buf);
-    while tries > 0 {
-        if !is_interrupted(got) {
-            break;
+// One read, made again where a signal interrupted it: for ever, as far as anyone can tell.
+fn read_some<R: Read>(reader: &mut R, buf: &mut [u8]) -> io::Result<usize>
+    ensures bound { ReadsAtMost result buf.new }
+    ensures bytes { ReadConsumes (R.remaining reader.old) (R.remaining reader.new) result buf.new }
+{
+    for _ in 0..u64::MAX {
+        match reader.read(buf) {
+            Err(e) if e.kind() == ErrorKind::Interrupted => {}
+            got => return got,
         }
-        got = libc::read(STDIN_FILENO, buf);
-        tries -= 1;
     }
-    got
+    reader.read(buf)
 }
 
-// One write, made again where it was interrupted.
-fn write_some(bytes: &[u8]) -> isize {
-    let mut tries = TRIES;
-    let mut put = libc::write(STDOUT_FILENO, bytes);
-    while tries > 0 {
-        if !is_interrupted(put) {
-            break;
+// One write, made again where a signal interrupted it.
+fn write_some<W: Write>(writer: &mut W, bytes: &[u8]) -> io::Result<usize>
+    ensures bound { WritesAtMost result bytes.now }
+    ensures bytes { WriteAppends (W.contents writer.old) (W.contents writer.new) result bytes.now }
+{
+    for _ in 0..u64::MAX {
+        match writer.write(bytes) {
+            Err(e) if e.kind() == ErrorKind::Interrupted => {}
+            put => return put,
         }
-        put = libc::write(STDOUT_FILENO, bytes);
-        tries -= 1;
     }
-    put
+    writer.write(bytes)
 }
 
-// Reads until the input ends or buf is full. A read that fails is said on standard error.
-fn read_input(buf: &mut [u8]) -> Input
-    ensures { Within result (length buf.new) }
+// Reads until the input ends or buf is full.
+fn read_input<R: Read>(reader: &mut R, buf: &mut [u8]) -> io::Result<usize>
+    ensures within { IfOk result (λ n. n ≤ length buf.new) }
+    ensures bytes { IfOk result (λ n. IfSome (R.remaining reader.old) (λ s. take n buf.new ≡ take (length buf.new) s)) }
 {
     let mut n: usize = 0;
     while n < buf.len() {
-        let part = &mut buf[n..];
-        let got = read_some(part);
-        if got < 0 {
-            os::fail(b"tally: standard input");
-            return Input::Failed;
-        }
-        let more = io::count(got, part);
+        let more = read_some(reader, &mut buf[n..])?;
         if more == 0 {
             break;
         }
         n += more;
     }
-    Input::Whole(n)
+    Ok(n)
 }
 
-// Writes the output for this input. A write that fails or takes nothing is said on standard error, and is the last; so is a failure that
-// only closing tells.
-fn write_output(input: &[u8], output: &[u8])
+// Writes the output for this input. A write that fails or takes nothing is the last.
+fn write_output<W: Write>(writer: &mut W, input: &[u8], output: &[u8]) -> io::Result<()>
     requires { output.now ≡ output_of input.now }
+    ensures { Writes (W.contents writer.old) (W.contents writer.new) (output_of input.now) result }
 {
     let mut done: usize = 0;
     while done < output.len() {
-        let part = &output[done..];
-        let put = write_some(part);
-        if put < 0 {
-            os::fail(b"tally: standard output");
-            return;
-        }
-        let more = io::count(put, part);
+        let more = write_some(writer, &output[done..])?;
         if more == 0 {
-            io::write_all(STDERR_FILENO, b"tally: standard output: Nothing taken\n");
-            return;
+            return Err(Error::new(ErrorKind::WriteZero, "Nothing taken"));
         }
         done += more;
     }
-    if libc::close(STDOUT_FILENO) < 0 {
-        os::fail(b"tally: standard output");
-    }
+    Ok(())
 }
 
 // Lays out the output for this input in `room`, which every output fits into, and writes it.
-fn write_lot(input: &[u8], room: &mut [u8])
+fn write_lot<W: Write>(writer: &mut W, input: &[u8], room: &mut [u8]) -> io::Result<()>
     requires { output_room ≤ length room.old }
+    ensures { Writes (W.contents writer.old) (W.contents writer.new) (output_of input.now) result }
 {
     let end = put_output(input, room);
-    write_output(input, &room[..end]);
+    write_output(writer, input, &room[..end])
+}
+
+// Reads an input into one lent buffer, lays out its output in the other, and writes that. Where a read failed nothing is written.
+pub fn serve<R: Read, W: Write>(
+    reader: &mut R,
+    writer: &mut W,
+    input: &mut [u8],
+    output: &mut [u8],
+) -> Served
+    requires input_room { length input.old ≡ input_room }
+    requires output_room { output_room ≤ length output.old }
+    ensures { Serves (R.remaining reader.old) (W.contents writer.old) (W.contents writer.new) result }
+{
+    match read_input(reader, input) {
+        Ok(n) => match write_lot(writer, &input[..n], output) {
+            Ok(()) => Served::Whole(n),
+            Err(e) => Served::Unwritten(n, e),
+        },
+        Err(e) => Served::Unread(e),
+    }
+}
+
+// The system's words for a failure, without the number that std puts after them.
+fn words(text: &str) -> &str {
+    match text.split_once(" (os error ") {
+        Some((words, _)) => words,
+        None => text,
+    }
+}
+
+// Says on standard error that a call failed.
+fn tell(rt: &HostRuntime, stream: &str, error: &Error) {
+    let _ = match format!(in rt.alloc(); "{error}") {
+        Ok(text) => {
+            let said = words(text.as_str());
+            eprintln!(rt; "tally: standard {stream}: {said}")
+        }
+        Err(_) => eprintln!(rt; "tally: standard {stream}: {error}"),
+    };
 }
 
 // Reads standard input, and writes its output to standard output. Answers what was read: the rules leave it open, so that nothing but its
 // length is limited. Where a read failed nothing is written.
-pub fn run() -> Input
+pub fn run(rt: &HostRuntime) -> Input
     ensures { Within result input_room }
 {
     let mut input = [0u8; INPUT_ROOM];
     let mut output = [0u8; OUTPUT_ROOM];
-    let read = read_input(&mut input);
-    if let Input::Whole(n) = read {
-        write_lot(&input[..n], &mut output);
+    match serve(&mut rt.stdin(), &mut rt.stdout(), &mut input, &mut output) {
+        Served::Whole(n) => Input::Whole(n),
+        Served::Unread(e) => {
+            tell(rt, "input", &e);
+            Input::Failed
+        }
+        Served::Unwritten(n, e) => {
+            tell(rt, "output", &e);
+            Input::Whole(n)
+        }
     }
-    read
 }

@@ -1,6 +1,6 @@
 // The lot tally (document 01, "The program").
 #![tactic(auto)]
 
-fn main() {
-    program::run();
+fn main(rt: HostRuntime) {
+    program::run(&rt);
 }
