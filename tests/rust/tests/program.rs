@@ -6,7 +6,6 @@ use conformance::edges;
 use conformance::model::map::{stored, Map, LOT_LIMIT};
 use conformance::model::text::output;
 use conformance::model::{CLASSES, MOST_CLASSES, PLACES};
-use std::os::unix::process::ExitStatusExt;
 use std::path::{Path, PathBuf};
 use std::process::{Command, ExitStatus, Stdio};
 use std::sync::OnceLock;
@@ -23,8 +22,6 @@ const ERRORS: [(u32, &str); 4] = [
     (28, "No space left on device"),
     (32, "Broken pipe"),
 ];
-
-const SIGPIPE: i32 = 13;
 
 fn in_repository(path: &str) -> PathBuf {
     Path::new(concat!(env!("CARGO_MANIFEST_DIR"), "/../..")).join(path)
@@ -119,13 +116,13 @@ fn tree_behind_the_lines() {
     tree::lines(|input| program.output(input, input.len()), 300);
 }
 
-/// The signal ends the program; where it is ignored the write fails.
+/// The write fails, whether the signal is ignored before or not.
 #[test]
 fn nobody_reads() {
-    let (status, said) = unread(&mut tally().command());
-    assert_eq!((status.signal(), said.as_str()), (Some(SIGPIPE), ""));
-    let (status, said) = unread(&mut tally().under("trap '' PIPE;", ""));
-    assert_eq!((status.code(), said.as_str()), (Some(0), "tally: standard output: Broken pipe\n"));
+    for first in ["", "trap '' PIPE;"] {
+        let (status, said) = unread(&mut tally().under(first, ""));
+        assert_eq!((status.code(), said.as_str()), (Some(0), "tally: standard output: Broken pipe\n"), "{first}");
+    }
 }
 
 #[test]
@@ -154,8 +151,6 @@ fn a_write_that_fails() {
                 leaves(run(&mut with_faults(&faults), &input, input.len()), before, &said, &faults);
             }
         }
-        let said = "tally: standard output: Input/output error\n";
-        leaves(run(&mut with_faults("close 1 5"), &input, input.len()), due.as_bytes(), said, "close");
     }
 }
 
