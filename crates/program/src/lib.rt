@@ -18,7 +18,7 @@ use aggregate::{Aggregate, Config};
 use linemap::Map;
 use opening::OpenAnswer;
 use schedule::{Answer, Step};
-pub use streams::{Input, Served, run, serve};
+pub use streams::{Input, run};
 use text::Line;
 use topology::LinksAnswer;
 

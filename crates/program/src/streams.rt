@@ -23,7 +23,7 @@ pub enum Input {
 
 // What a run comes to.
 #[derive(Clone, Copy)]
-pub enum Served {
+pub(crate) enum Served {
     // So many bytes were read, and their output is written.
     Whole(usize),
     // A read failed.
@@ -102,7 +102,7 @@ fn write_lot<W: Write>(writer: &mut W, input: &[u8], room: &mut [u8]) -> io::Res
 }
 
 // Reads an input into one lent buffer, lays out its output in the other, and writes that. Where a read failed nothing is written.
-pub fn serve<R: Read, W: Write>(
+pub(crate) fn serve<R: Read, W: Write>(
     reader: &mut R,
     writer: &mut W,
     input: &mut [u8],

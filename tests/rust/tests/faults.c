@@ -45,3 +45,11 @@ ssize_t write(int fd, const void *bytes, size_t count) {
         return answer;
     return syscall(SYS_write, fd, bytes, cut(count));
 }
+
+int close(int fd) {
+    static int calls;
+    int answer;
+    if (fd == STDOUT_FILENO && is_faulty("close", ++calls, &answer))
+        return answer;
+    return syscall(SYS_close, fd);
+}

@@ -151,6 +151,8 @@ fn a_write_that_fails() {
                 leaves(run(&mut with_faults(&faults), &input, input.len()), before, &said, &faults);
             }
         }
+        // what only closing tells is past the program's end: the output stands
+        leaves(run(&mut with_faults("close 1 5"), &input, input.len()), due.as_bytes(), "", "close");
     }
 }
 
