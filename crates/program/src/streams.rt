@@ -5,7 +5,8 @@ ghost use Rattle.std.specs.Prelude.{◌≡◌, ◌≤◌, length, take, IfOk, If
 ghost use Rattle.std.specs.Io.{ReadsAtMost, WritesAtMost};
 ghost use Rattle.std.specs.Io.KnownBytes.{ReadConsumes, WriteAppends};
 ghost use Rattle.program.specs.Output.{output_of, output_room};
-ghost use Rattle.program.specs.Running.{Within, input_room, Writes, Serves};
+ghost use Rattle.program.specs.Running.{Within, input_room};
+ghost use Rattle.program.specs.Internal.Serving.{Writes, Serves};
 
 use crate::{OUTPUT_ROOM, put_output};
 use std::io;

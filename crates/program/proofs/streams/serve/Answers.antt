@@ -1,7 +1,7 @@
 -- `program::streams::serve` meets its contract: the front that is read decides the output. Assumes nothing.
 use Rattle.std.proofs.Common.{rules, arith}
 use Rattle.std.specs.Io.KnownBytes.{Appends}
-use Rattle.program.specs.Running.{Begins}
+use Rattle.program.specs.Internal.Serving.{Begins}
 use Rattle.program.proofs.Inputs.{front_enough}
 use Rattle.program.proofs.Serving.{front_serves}
 use Rattle.program.proofs.streams.serve.Goals as goal
