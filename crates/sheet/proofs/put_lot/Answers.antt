@@ -1,0 +1,8 @@
+-- `sheet::put_lot` meets its contract: the lot, then what fills its line. Assumes nothing.
+use Rattle.sheet.proofs.Laying.{lays_one, lays_then}
+use Rattle.sheet.proofs.Lines.{lot_line_lem}
+use Rattle.sheet.proofs.put_lot.Goals as goal
+
+pub returns : goal.returns
+returns c =
+    rw (lot_line_lem c.args.lot c.requires) (lays_then c.put_number-end.ensures (lays_one (c.put_bytes.ensures.end, c.put_bytes.ensures.bytes)))

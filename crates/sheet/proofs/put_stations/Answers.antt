@@ -1,0 +1,26 @@
+-- `sheet::put_stations` meets its contract: before station i the lines of the stations below it are put. Assumes nothing.
+use mathlib.Core.Path.{◌≡◌, refl}
+use Prim.Native.Nat.{◌-◌, ◌≤◌}
+use native.Mathlib.Omega.{arith}
+use lib.ListN.{length}
+use borrow.Author.Rules.{rules}
+use Rattle.finite.specs.Below.{each}
+use Rattle.sheet.specs.Layout.{station_lines}
+use Rattle.sheet.specs.Internal.Laying.{Lays, FitStations}
+use Rattle.sheet.proofs.Laying.{lays_none, lays_more, below_none, below_more}
+use Rattle.sheet.proofs.put_stations.Goals as goal
+
+pub loop-i-init : goal.loop-i-init
+loop-i-init c = (omega arith, refl, lays_none _, below_none)
+
+pub loop-i-preserved : goal.loop-i-preserved
+loop-i-preserved c =
+    let l = c.loop-i.invariant in
+    let lines = c.put_station-end.ensures in
+    (omega arith, search rules, lays_more _ l.2 lines.lays, below_more l.3 lines.fits)
+
+pub returns : goal.returns
+returns c =
+    let l = c.loop-i in
+    let end : l.i ≡ c.args.m.k = omega arith in
+    record { lays = rw end at l.invariant.2; fits = rw end at l.invariant.3 }
