@@ -1,4 +1,4 @@
-/* The lot tally for C and C++: the functions of libcapi.a, which `rt staticlib capi` writes (x86-64 Linux, System V calling convention).
+/* The lot tally for C and C++: the functions of libcapi.a, which `rt lib` writes in crates/capi (x86-64 Linux, System V calling convention).
    Link it after the sources, -lcapi. It keeps nothing, writes nothing but what a call is lent without const, and of other code needs only
    memcpy, memmove, memset and memcmp.
 

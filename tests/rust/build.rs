@@ -17,10 +17,10 @@ fn main() {
     println!("cargo:rustc-link-lib=static=capi");
 }
 
-/// Where `rt staticlib capi` writes, unless the caller says otherwise.
+/// Where `rt lib` writes in crates/capi, unless the caller says otherwise.
 fn archive_folder() -> PathBuf {
     match env::var_os("TALLY_ARCHIVE_DIR") {
         Some(folder) => PathBuf::from(folder),
-        None => PathBuf::from(env::var_os("CARGO_MANIFEST_DIR").unwrap()).join("../../target/staticlib"),
+        None => PathBuf::from(env::var_os("CARGO_MANIFEST_DIR").unwrap()).join("../../crates/capi/out"),
     }
 }

@@ -1,4 +1,4 @@
-// The library for C and for Rust (`rt staticlib capi`): every call on numbers, slices and records that the caller lends. include/tally.h
+// The library for C and for Rust (`rt lib` here): every call on numbers, slices and records that the caller lends. include/tally.h
 // says what each takes, answers and leaves.
 #![tactic(auto)]
 

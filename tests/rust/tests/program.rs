@@ -1,4 +1,4 @@
-//! The built program against the model, and on streams that fail. TALLY_PROGRAM says where it is, if not in target/bin.
+//! The built program against the model, and on streams that fail. TALLY_PROGRAM says where it is, if not where `rt run` builds it.
 
 use conformance::compare::program::{inputs, length_limit, run, Left, Program};
 use conformance::compare::tree;
@@ -28,7 +28,7 @@ fn in_repository(path: &str) -> PathBuf {
 }
 
 fn tally() -> Program {
-    let built = in_repository("target/bin/tally");
+    let built = in_repository("crates/tally/out/tally");
     Program::at(env::var_os("TALLY_PROGRAM").map_or(built, PathBuf::from))
 }
 
