@@ -6,7 +6,9 @@ use Rattle.sheet.proofs.put_count.Goals as goal
 
 pub returns-then-count-eq-NO_READING : goal.returns-then-count-eq-NO_READING
 unfolding count_column
-returns-then-count-eq-NO_READING c = rw (eq-eqb _ _ c.if-count-eq-NO_READING.true) (lays_one (c.put_bytes.ensures.end, c.put_bytes.ensures.bytes))
+returns-then-count-eq-NO_READING c =
+    let put = c.put_bytes.ensures in
+    rw (eq-eqb _ _ c.if-count-eq-NO_READING.true) (lays_one (put.end, put.bytes))
 
 pub returns : goal.returns
 unfolding count_column

@@ -5,4 +5,5 @@ use Rattle.sheet.proofs.put_lot.Goals as goal
 
 pub returns : goal.returns
 returns c =
-    rw (lot_line_lem c.args.lot c.requires) (lays_then c.put_number-end.ensures (lays_one (c.put_bytes.ensures.end, c.put_bytes.ensures.bytes)))
+    let rest = c.put_bytes.ensures in
+    rw (lot_line_lem c.args.lot c.requires) (lays_then c.put_number-end.ensures (lays_one (rest.end, rest.bytes)))

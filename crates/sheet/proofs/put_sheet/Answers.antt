@@ -13,7 +13,8 @@ use Rattle.rendezvous.specs.Net.{net_in, well_formed}
 use Rattle.sheet.specs.Sheet.{desk_of, agrees, is_reported}
 use Rattle.sheet.proofs.Rules.{desk-low, narrow_map, narrow_cells, unfit, long_lot, out_of_form, differs, unreported, too_short, lays_sheet}
 use Rattle.sheet.proofs.put_sheet.Goals as goal
-use Rattle.sheet.proofs.put_sheet.Goals.{In_default, Else-not-is_storable, Else-not-is_well_formed, Else-not-agrees, After-load-desk, Else-not-is_reported}
+use Rattle.sheet.proofs.put_sheet.Goals.{In_default, Else-not-is_storable, Else-not-is_well_formed, Else-not-agrees}
+use Rattle.sheet.proofs.put_sheet.Goals.{After-load-desk, Else-not-is_reported}
 
 -- what each test that was passed says
 accepted-map : (c : In_default) → is_accepted (acceptance c.args.m) ≡ true
@@ -54,7 +55,8 @@ pub returns-then-not-is_storable : goal.returns-then-not-is_storable
 returns-then-not-is_storable c =
     let a = c.args in
     let at = goal.at.returns-then-not-is_storable c in
-    long_lot a.m (net_in a.net.now a.totals.now) a.out.now (accepted-map at.In_default) (sym c.is_storable.ensures ∙ c.if-not-is_storable.true)
+    long_lot a.m (net_in a.net.now a.totals.now) a.out.now (accepted-map at.In_default)
+    (sym c.is_storable.ensures ∙ c.if-not-is_storable.true)
 
 pub returns-then-not-is_well_formed : goal.returns-then-not-is_well_formed
 returns-then-not-is_well_formed c =

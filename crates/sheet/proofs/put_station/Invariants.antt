@@ -1,14 +1,11 @@
 -- `sheet::put_station` meets its contract: before class j the lines of the classes below it are put. Assumes nothing.
-use mathlib.Core.Path.{◌≡◌, refl}
+use mathlib.Core.Path.{◌≡◌}
 use Prim.Native.Nat.{ℕ, ◌-◌, ◌≤◌}
-use native.Mathlib.Omega.{arith}
 use lib.ListN.{length, get_or}
-use borrow.Author.Rules.{rules}
 use Rattle.finite.specs.Below.{each}
 use Rattle.linemap.specs.Maps.{place}
-use Rattle.sheet.specs.Layout.{count_line, station_lines}
+use Rattle.sheet.specs.Layout.{count_line}
 use Rattle.sheet.specs.Internal.Laying.{Lays, FitStation}
-use Rattle.sheet.proofs.Laying.{lays_none, lays_more, below_none, below_more}
 use Rattle.sheet.proofs.put_station.Given as goal
 
 abbrev pub invariant-loop-j : goal.invariant-loop-j

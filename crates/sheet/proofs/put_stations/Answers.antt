@@ -1,12 +1,7 @@
 -- `sheet::put_stations` meets its contract: before station i the lines of the stations below it are put. Assumes nothing.
 use mathlib.Core.Path.{◌≡◌, refl}
-use Prim.Native.Nat.{◌-◌, ◌≤◌}
 use native.Mathlib.Omega.{arith}
-use lib.ListN.{length}
 use borrow.Author.Rules.{rules}
-use Rattle.finite.specs.Below.{each}
-use Rattle.sheet.specs.Layout.{station_lines}
-use Rattle.sheet.specs.Internal.Laying.{Lays, FitStations}
 use Rattle.sheet.proofs.Laying.{lays_none, lays_more, below_none, below_more}
 use Rattle.sheet.proofs.put_stations.Goals as goal
 

@@ -5,9 +5,11 @@ use Rattle.sheet.proofs.put_total_line.Goals as goal
 
 pub returns : goal.returns
 returns c =
+    let letter = c.put_bytes-letter.ensures in
+    let rest = c.put_bytes.ensures in
     rw (total_line_lem c.args.j c.args.x c.requires.j_bound c.requires.narrow_cell)
     (lays_then
     (lays_then
-    (lays_then (lays_then (lays_one (c.put_bytes-letter.ensures.end, c.put_bytes-letter.ensures.bytes)) c.put_spaced-class.ensures) c.put_spaced-total.ensures)
+    (lays_then (lays_then (lays_one (letter.end, letter.bytes)) c.put_spaced-class.ensures) c.put_spaced-total.ensures)
     c.put_number-end.ensures)
-    (lays_one (c.put_bytes.ensures.end, c.put_bytes.ensures.bytes)))
+    (lays_one (rest.end, rest.bytes)))

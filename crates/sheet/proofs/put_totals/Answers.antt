@@ -1,13 +1,8 @@
 -- `sheet::put_totals` meets its contract: before class j the lines of the classes below it are put. Assumes nothing.
 use mathlib.Core.Path.{◌≡◌, refl}
-use Prim.Native.Nat.{ℕ, ◌-◌, ◌≤◌}
 use native.Mathlib.Omega.{arith}
-use lib.ListN.{length}
 use borrow.Author.Rules.{rules}
-use Rattle.finite.specs.Below.{each}
-use Rattle.aggregate.specs.Aggregate.{cell}
-use Rattle.sheet.specs.Internal.Laying.{Lays}
-use Rattle.sheet.specs.Layout.{total_line, total_lines}
+use Rattle.sheet.specs.Layout.{total_lines}
 use Rattle.sheet.proofs.Laying.{lays_none, lays_more}
 use Rattle.sheet.proofs.put_totals.Goals as goal
 
@@ -16,7 +11,10 @@ loop-j-init c = (omega arith, refl, lays_none _)
 
 pub put_total_line-end-requires : goal.put_total_line-end-requires
 put_total_line-end-requires c =
-    record { j_bound = omega (arith, c.requires.few); narrow_cell = rw c.class_of-x.ensures (c.requires.cells c.loop-j.j c.loop-j-test.true) }
+    record {
+      j_bound = omega (arith, c.requires.few);
+      narrow_cell = rw c.class_of-x.ensures (c.requires.cells c.loop-j.j c.loop-j-test.true);
+    }
 
 pub loop-j-preserved : goal.loop-j-preserved
 loop-j-preserved c = (
