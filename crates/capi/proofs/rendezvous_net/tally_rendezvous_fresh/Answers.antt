@@ -1,0 +1,10 @@
+-- `capi::rendezvous_net::tally_rendezvous_fresh` meets its contract: what `rendezvous::fresh` comes to, in numbers. Assumes nothing.
+use mathlib.Core.Path.{◌∙◌, ap}
+use Rattle.capi.specs.Steps.{fresh_call}
+use Rattle.capi.proofs.Calls.{opened-call}
+use Rattle.capi.proofs.rendezvous_net.tally_rendezvous_fresh.Goals as goal
+
+pub returns : goal.returns
+returns c =
+    let opened = c.fresh-answer.ensures in
+    record { call = opened-call c.fresh-answer.result _ _ c.opened.ensures ∙ ap fresh_call opened.opening; beside = opened.beside }
