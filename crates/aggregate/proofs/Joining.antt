@@ -1,7 +1,7 @@
 -- What the theorem on the order of the links joins: the cells of an aggregate, as a function of the class, neutral past c. Joining keeps the
 -- receiver's places past c, so aggregates themselves have no order; their cells have, by the laws of one cell, and those by "what joining needs alone
 -- (grouping, order, a neutral value), for all ways" (document 02, request 10).
-use Rattle.std.specs.Prelude.{◌≡◌, refl, cond, ◌⊎◌, ℕ, ◌+◌, ◌≤◌, min, max, eqb, leb}
+use Rattle.std.specs.Prelude.{◌≡◌, refl, ◌⊎◌, ℕ, ◌+◌, ◌≤◌, min, max, eqb, leb}
 use Rattle.std.proofs.Common.{ap, ap₂, ◌∙◌, inl, inr, add_assoc, add_comm, zero-add, arith, eq-eqb, ne_eqb, leb-true, leb-false}
 use Rattle.finite.specs.Internal.Monoid.{CommMonoid, pointwise}
 use Rattle.finite.proofs.Cases.{by_bool, by_eq, by-sum}

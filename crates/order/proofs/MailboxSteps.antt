@@ -36,7 +36,7 @@ use Rattle.mailbox.specs.Net.{Net, station, well_formed}
 use Rattle.mailbox.proofs.Laws.{formed_at, posted_bounded, taken_fits}
 use Rattle.mail.specs.Mail.{box_at, brought_at}
 use Rattle.mailbox.specs.Delivery.{takes_from, taken, must_answer, delivered, may_report, reported}
-use Rattle.mailbox.proofs.Delivered.{Shaped, receiver, delivered_config, delivered_shaped, station-after-delivery, box_after-delivery, brought_after-delivery, reported_shaped, station-after-report, boxes_after-report}
+use Rattle.mailbox.proofs.Delivered.{Shaped, delivered_config, delivered_shaped, station-after-delivery, box_after-delivery, brought_after-delivery, reported_shaped, station-after-report, boxes_after-report}
 use Rattle.mailbox.specs.Rules as figure
 use Rattle.mailbox.specs.Rules.{may_step, net_after, rules}
 use Rattle.order.proofs.Stations.{view_of, line, Places}

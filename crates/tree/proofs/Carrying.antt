@@ -24,7 +24,7 @@ use Rattle.linemap.specs.Maps.{config_of, acceptance}
 use Rattle.linemap.specs.RoundTrip.{Fits}
 use Rattle.schedule.specs.declared.Step.{Step}
 use Rattle.schedule.proofs.Listing.{Allowed}
-use Rattle.rendezvous.specs.Net.{Net, station, told}
+use Rattle.rendezvous.specs.Net.{Net, station}
 use Rattle.rendezvous.specs.Figure.{answer}
 use Rattle.rendezvous.specs.Telling.{tell}
 use Rattle.rendezvous.specs.Rules.{apply, rules}

@@ -1,14 +1,11 @@
 -- `stations::are_well_formed` meets its contract. The invariant: every station passed is well-formed; one that is not ends it. Assumes nothing.
-use mathlib.Core.Path.{◌≡◌, refl, sym, ap, ◌∙◌}
+use mathlib.Core.Path.{◌≡◌, sym, ap, ◌∙◌}
 use mathlib.Core.Bool.{Bool, true, false, and-false}
 use mathlib.Core.List.{List}
 use Prim.Native.Nat.{ℕ, ◌≤◌, ◌<◌, ◌-◌}
-use native.Mathlib.Omega.{arith}
-use borrow.Author.Tests.{not-true, not-false}
 use Rattle.finite.specs.Below.{all_below}
-use Rattle.finite.proofs.Below.{all_below_more, all_below_fails}
+use Rattle.finite.proofs.Below.{all_below_fails}
 use Rattle.aggregate.specs.declared.Config.{Config}
-use Rattle.aggregate.proofs.Laws.{valid-k}
 use Rattle.station.specs.declared.Station.{Station}
 use Rattle.station.specs.Form.{well_formed}
 use Rattle.stations.specs.Stations.{station_at, are_well_formed}

@@ -1,5 +1,4 @@
 -- `stations::blank` meets its contract: what it holds is `aggregate::empty`'s. Assumes nothing.
-use borrow.Author.Rules.{rules}
 use Rattle.stations.proofs.blank.Goals as goal
 
 pub returns : goal.returns

@@ -1,10 +1,7 @@
 -- `stations::clear_kept` meets its contract. Invariant: nothing is kept below i. Assumes nothing.
 use mathlib.Core.Path.{◌≡◌}
-use Prim.Native.Nat.{◌-◌, ◌≤◌}
 use native.Mathlib.Omega.{arith}
-use Rattle.stations.specs.Kept.{kept_in}
-use Rattle.stations.proofs.Kept.{Cleared, cleared_none, cleared_next, cleared_all}
-use borrow.Author.Rules.{rules}
+use Rattle.stations.proofs.Kept.{cleared_none, cleared_next, cleared_all}
 use Rattle.stations.proofs.clear_kept.Goals as goal
 
 pub loop-i-init : goal.loop-i-init

@@ -4,7 +4,6 @@ use Prim.Native.Nat.{ℕ, ◌%◌, ◌^◌}
 use native.Mathlib.Nat.{div-one}
 use lib.ListN.{get_or}
 use Rattle.stations.specs.Words.{byte_of, config_in}
-use borrow.Author.Rules.{rules}
 use Rattle.stations.proofs.config_in.Goals as goal
 
 pub returns : goal.returns

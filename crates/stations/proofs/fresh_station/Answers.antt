@@ -1,7 +1,6 @@
 -- `stations::fresh_station` meets its contract: the test of i picks the blank one or the definition's record, and the test of the root
 -- its state. Assumes nothing.
 use mathlib.Core.Path.{sym, ◌∙◌}
-use borrow.Author.Rules.{rules}
 use borrow.Author.Tests.{lt-ltb, le-ltb, eq-eqb, ne_eqb}
 use Rattle.stations.specs.Stations.{fresh_station}
 use Rattle.stations.proofs.fresh_station.Goals as goal

@@ -4,7 +4,6 @@ use mathlib.Core.List.{List}
 use Prim.Native.Nat.{ℕ, ◌+◌}
 use lib.ListN.{get_or}
 use Rattle.aggregate.specs.Aggregate.{of_words}
-use borrow.Author.Rules.{rules}
 use Rattle.stations.proofs.load_aggregate.Goals as goal
 
 pub returns : goal.returns

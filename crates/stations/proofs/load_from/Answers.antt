@@ -5,7 +5,6 @@ use native.Mathlib.Nat.{div-one}
 use lib.ListN.{get_or}
 use Rattle.aggregate.specs.declared.Aggregate.{Aggregate}
 use Rattle.stations.specs.Words.{byte_of, station_from}
-use borrow.Author.Rules.{rules}
 use Rattle.stations.proofs.load_from.Goals as goal
 
 pub returns : goal.returns

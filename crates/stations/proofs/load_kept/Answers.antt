@@ -1,6 +1,5 @@
 -- `stations::load_kept` meets its contract: the guard is that of the definition. Assumes nothing.
 use borrow.Author.Tests.{lt-ltb, le-ltb}
-use borrow.Author.Rules.{rules}
 use Rattle.stations.proofs.load_kept.Goals as goal
 
 pub returns-then-i-lt64 : goal.returns-then-i-lt64

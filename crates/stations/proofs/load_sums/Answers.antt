@@ -1,6 +1,6 @@
 -- `stations::load_sums` meets its contract: sum by sum, the word is stored over zero. Assumes nothing.
 use mathlib.Core.Path.{◌≡◌, refl}
-use Prim.Native.Nat.{◌+◌, ◌-◌, ◌≤◌}
+use Prim.Native.Nat.{◌+◌}
 use lib.ListN.{get_or, replicate}
 use native.Mathlib.Omega.{arith}
 use Rattle.finite.specs.Below.{tabulate, each}

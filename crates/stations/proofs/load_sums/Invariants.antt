@@ -1,11 +1,8 @@
 -- `stations::load_sums` meets its contract: sum by sum, the word is stored over zero. Assumes nothing.
-use mathlib.Core.Path.{◌≡◌, refl}
+use mathlib.Core.Path.{◌≡◌}
 use Prim.Native.Nat.{◌+◌, ◌-◌, ◌≤◌}
 use lib.ListN.{get_or, replicate}
-use native.Mathlib.Omega.{arith}
-use Rattle.finite.specs.Below.{tabulate, each}
-use Rattle.finite.proofs.Below.{stored, stored_more}
-use Rattle.stations.specs.Words.{sums_in}
+use Rattle.finite.proofs.Below.{stored}
 use Rattle.stations.proofs.load_sums.Given as goal
 
 abbrev pub invariant-loop-j : goal.invariant-loop-j

@@ -4,7 +4,6 @@ use native.Mathlib.Omega.{arith}
 use lib.ListN.{length, set}
 use Rattle.stations.specs.Words.{with_config, config_in, stations_in, spare_in}
 use Rattle.stations.proofs.Words.{config_put, config_put-stations, config_put_spare}
-use borrow.Author.Rules.{rules}
 use Rattle.stations.proofs.put_config.Goals as goal
 
 pub returns : goal.returns

@@ -1,14 +1,10 @@
 -- `stations::put_fresh` meets its contract. The invariant: the first i places are those of the table, the rest of the words stays. Assumes nothing.
-use mathlib.Core.Path.{◌≡◌, refl, ap, ◌∙◌}
-use Prim.Native.Nat.{◌+◌, ◌≤◌, ◌<◌, ◌-◌}
-use native.Mathlib.Omega.{arith}
-use lib.ListN.{length, take, get_or}
-use Rattle.finite.specs.Below.{each, tabulate}
-use Rattle.finite.proofs.Below.{tabulate_more, tabulate-all}
-use Rattle.aggregate.specs.declared.Reading.{Reading}
-use Rattle.stations.specs.Stations.{reading_at, fresh_station, fresh_stations}
+use mathlib.Core.Path.{◌≡◌}
+use Prim.Native.Nat.{◌≤◌, ◌-◌}
+use lib.ListN.{take, get_or}
+use Rattle.finite.specs.Below.{tabulate}
+use Rattle.stations.specs.Stations.{reading_at, fresh_station}
 use Rattle.stations.specs.Words.{config_in, stations_in, spare_in}
-use Rattle.stations.proofs.Words.{length-stations}
 use Rattle.stations.proofs.put_fresh.Given as goal
 
 abbrev pub invariant-loop-i : goal.invariant-loop-i

@@ -3,8 +3,8 @@ use mathlib.Core.Path.{◌≡◌, refl, ap, ◌∙◌}
 use mathlib.Core.Bool.{cond}
 use mathlib.Core.List.{List}
 use lib.Dec.{ltb}
-use Prim.Native.Nat.{ℕ, ◌+◌, ◌*◌, ◌≤◌, ◌-◌, min}
-use lib.ListN.{length, get_or, replicate, length-set, get_or-replicate}
+use Prim.Native.Nat.{ℕ, ◌+◌, ◌*◌, min}
+use lib.ListN.{get_or, replicate, length-set, get_or-replicate}
 use Rattle.finite.proofs.Below.{stored, stored_more, stored-table, tabulate_ext}
 use Rattle.stations.specs.Stations.{reading_at}
 use native.Mathlib.Omega.{arith}

@@ -1,13 +1,8 @@
 -- `stations::reading_at` meets its contract: class by class, the count is stored over zeros. Assumes nothing.
-use mathlib.Core.Path.{◌≡◌, refl, ap, ◌∙◌}
-use mathlib.Core.Bool.{cond}
-use mathlib.Core.List.{List}
-use lib.Dec.{ltb}
-use Prim.Native.Nat.{ℕ, ◌+◌, ◌*◌, ◌≤◌, ◌-◌, min}
-use lib.ListN.{length, get_or, replicate, length-set, get_or-replicate}
-use Rattle.finite.proofs.Below.{stored, stored_more, stored-table, tabulate_ext}
-use Rattle.stations.specs.Stations.{reading_at}
-use native.Mathlib.Omega.{arith}
+use mathlib.Core.Path.{◌≡◌}
+use Prim.Native.Nat.{◌+◌, ◌*◌, ◌≤◌, ◌-◌}
+use lib.ListN.{length, get_or, replicate}
+use Rattle.finite.proofs.Below.{stored}
 use Rattle.stations.proofs.reading_at.Given as goal
 
 abbrev pub invariant-loop-j : goal.invariant-loop-j

@@ -6,7 +6,6 @@ use lib.Seq.{set_out}
 use borrow.Author.Tests.{lt-ltb, le-ltb}
 use Rattle.stations.specs.Words.{config_in, stations_in, spare_in}
 use Rattle.stations.proofs.Words.{length-stations, stations-stored, stored_config, stored_spare}
-use borrow.Author.Rules.{rules}
 use Rattle.stations.proofs.store.Goals as goal
 
 pub returns-then-i-lt64 : goal.returns-then-i-lt64

@@ -1,7 +1,6 @@
 -- `stations::store_aggregate` meets its contract: sums, then the word of missing numbers; what is stored fits. Assumes nothing.
 use mathlib.Core.Path.{sym, ap, ◌∙◌}
 use Rattle.finite.specs.Numbers.{bytes}
-use borrow.Author.Rules.{rules}
 use Rattle.stations.proofs.store_aggregate.Goals as goal
 
 pub returns : goal.returns

@@ -1,6 +1,5 @@
 -- `stations::store_from` meets its contract: the words are stored one after the other, and what is stored fits. Assumes nothing.
 use Rattle.stations.specs.Words.{with_station}
-use borrow.Author.Rules.{rules}
 use Rattle.stations.proofs.store_from.Goals as goal
 
 pub returns : goal.returns

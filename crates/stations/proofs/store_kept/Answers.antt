@@ -6,7 +6,6 @@ use lib.Seq.{set_out}
 use borrow.Author.Tests.{lt-ltb, le-ltb}
 use Rattle.stations.specs.Kept.{kept_in}
 use Rattle.stations.proofs.Kept.{length_kept, kept_stored}
-use borrow.Author.Rules.{rules}
 use Rattle.stations.proofs.store_kept.Goals as goal
 
 pub returns-then-i-lt64 : goal.returns-then-i-lt64

@@ -1,14 +1,12 @@
 -- `stations::store_sums` meets its contract: the invariant is the definition, sum by sum. Assumes nothing.
-use mathlib.Core.Path.{◌≡◌, refl, sym, ap, ◌∙◌}
+use mathlib.Core.Path.{◌≡◌}
 use mathlib.Core.List.{List}
 use Prim.Native.Nat.{ℕ, ◌+◌, ◌-◌, ◌≤◌}
 use native.Mathlib.Numerals.{add-one}
-use native.Mathlib.Omega.{arith}
-use lib.ListN.{length, set, length-map}
+use lib.ListN.{set}
 use Rattle.aggregate.specs.declared.Aggregate.{Aggregate}
 use Rattle.aggregate.specs.Aggregate.{cell}
 use Rattle.stations.specs.Words.{with_sums}
-use Rattle.stations.proofs.Words.{length-sums}
 use Rattle.stations.proofs.store_sums.Given as goal
 
 -- one sum more
