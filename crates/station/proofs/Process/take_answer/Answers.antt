@@ -4,7 +4,6 @@ use mathlib.Core.Path.{◌≡◌, sym, ◌∙◌}
 use mathlib.Core.Bool.{true, cond}
 use Prim.Native.Nat.{◌-◌}
 use lib.Dec.{eqb}
-use borrow.Author.Tests.{not-true, not-false}
 use Rattle.aggregate.specs.declared.Aggregate.{Aggregate}
 use Rattle.aggregate.specs.Aggregate.{joined, joinable}
 use Rattle.station.specs.declared.Process.{Process}
@@ -36,11 +35,11 @@ tested v p formed =
 
 pub returns-then-not-is_well_formed : goal.returns-then-not-is_well_formed
 unfolding take_answer decide
-returns-then-not-is_well_formed c = rw (sym c.is_well_formed.ensures ∙ not-true _ c.if-not-is_well_formed.true-raw) c.refused.ensures
+returns-then-not-is_well_formed c = rw (sym c.is_well_formed.ensures ∙ c.if-not-is_well_formed.true) c.refused.ensures
 
 pub returns : goal.returns
 returns c =
     let join = c.join-joined in
     let args = c.args in
     (rw (c.done.ensures, c.holding.ensures, join.ensures.bounded, join.ensures.held, c.config-t.ensures) at c.decide.ensures)
-    ∙ tested args.v args.self (sym c.is_well_formed.ensures ∙ not-false _ c.if-not-is_well_formed.false-raw)
+    ∙ tested args.v args.self (sym c.is_well_formed.ensures ∙ c.if-not-is_well_formed.false)

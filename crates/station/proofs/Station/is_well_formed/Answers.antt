@@ -2,7 +2,7 @@
 -- the last decides. Assumes nothing.
 use mathlib.Core.Path.{sym, ◌∙◌}
 use mathlib.Core.Bool.{and-false}
-use borrow.Author.Tests.{le-leb, lt-leb, lt-ltb, le-ltb, not-true, not-false}
+use borrow.Author.Tests.{le-leb, lt-leb, lt-ltb, le-ltb}
 use Rattle.station.specs.Form.{well_formed}
 use Rattle.station.proofs.Station.is_well_formed.Goals as goal
 
@@ -16,7 +16,7 @@ returns-then-k-self c = simp (le-ltb _ _ c.if-k-self.true, and-false)
 
 pub returns-then-not-is_within : goal.returns-then-not-is_within
 unfolding well_formed
-returns-then-not-is_within c = simp (sym c.is_within.ensures ∙ not-true _ c.if-not-is_within.true-raw, and-false)
+returns-then-not-is_within c = simp (sym c.is_within.ensures ∙ c.if-not-is_within.true, and-false)
 
 pub returns-then-self-gt64 : goal.returns-then-self-gt64
 unfolding well_formed
@@ -24,7 +24,7 @@ returns-then-self-gt64 c = simp (lt-leb _ _ c.if-self-gt64.true, and-false)
 
 pub returns-then-not-is_bounded : goal.returns-then-not-is_bounded
 unfolding well_formed
-returns-then-not-is_bounded c = simp (sym c.is_bounded.ensures ∙ not-true _ c.if-not-is_bounded.true-raw, and-false)
+returns-then-not-is_bounded c = simp (sym c.is_bounded.ensures ∙ c.if-not-is_bounded.true, and-false)
 
 pub returns-then-contains : goal.returns-then-contains
 unfolding well_formed
@@ -37,8 +37,8 @@ returns c =
       c.root.ensures,
       le-leb _ _ c.if-self-gt-FINISHED.false,
       lt-ltb _ _ c.if-k-self.false,
-      sym c.is_within.ensures ∙ not-false _ c.if-not-is_within.false-raw,
+      sym c.is_within.ensures ∙ c.if-not-is_within.false,
       le-leb _ _ c.if-self-gt64.false,
-      sym c.is_bounded.ensures ∙ not-false _ c.if-not-is_bounded.false-raw,
+      sym c.is_bounded.ensures ∙ c.if-not-is_bounded.false,
       sym c.contains.ensures ∙ c.if-contains.false,
     )
