@@ -15,10 +15,10 @@ use Rattle.stations.proofs.are_well_formed.Given as goal
 
 -- a station that is read, and what it says of the form
 module _ (words : List ℕ) (t : Config) (i : ℕ) (s : Station) (low : i < 64) (read : s ≡ station_read words i) where
-  form_at : (b : Bool) → well_formed t i s ≡ b → well_formed t i (station_at (stations_in words) i) ≡ b
+  pub form_at : (b : Bool) → well_formed t i s ≡ b → well_formed t i (station_at (stations_in words) i) ≡ b
   form_at b e = ap (well_formed t i) (sym (read ∙ station_read_lem words i low)) ∙ e
 
-  form_fails : t ≡ config_in words → i < t.k → well_formed t i s ≡ false → are_well_formed (config_in words) (stations_in words) ≡ false
+  pub form_fails : t ≡ config_in words → i < t.k → well_formed t i s ≡ false → are_well_formed (config_in words) (stations_in words) ≡ false
   unfolding are_well_formed
   form_fails e l broken =
       rw (sym e) (simp (all_below_fails (λ j. well_formed t j (station_at (stations_in words) j)) t.k i l (form_at false broken), and-false))
