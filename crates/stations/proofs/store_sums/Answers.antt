@@ -61,5 +61,4 @@ pub returns : goal.returns
 returns c =
     let l = c.loop-j in
     let all : l.j ≡ 8 = omega arith in
-    let sums = c.args.v.sums in
-    record { words = rw all at l.invariant.1; long = c.well_formed.1.1.0.1.1.0.1.0.1 }
+    record { words = rw all at l.invariant.1; long = omega arith }
