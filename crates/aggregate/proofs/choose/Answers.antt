@@ -9,7 +9,7 @@ use Rattle.finite.proofs.Cases.{by_bool}
 use Rattle.aggregate.specs.Ways.{greatest, none, chosen_of}
 use Rattle.aggregate.proofs.Joining.{chosen-second, chosen-first, chosen_both}
 use Rattle.aggregate.proofs.choose.Goals as goal
-use Rattle.aggregate.proofs.choose.Goals.{then-way-eq-GREATEST, else-way-eq-GREATEST}
+use Rattle.aggregate.proofs.choose.Goals.{Joined-way-eq-GREATEST, then-way-eq-GREATEST, else-way-eq-GREATEST}
 
 -- the choice of a way
 abbrev choice : ℕ → ℕ → ℕ → ℕ
@@ -25,6 +25,13 @@ picked : (way x y : ℕ) (first : Bool) → (x ≡ none → ⊥) → (y ≡ none
 picked way x y first some other test =
     chosen_both (choice way) x y some other ∙ picks (eqb way greatest) x y ∙ ap (λ (b : Bool). cond b x y) test
 
+-- what either branch of the test gave
+tested : (c : Joined-way-eq-GREATEST) → cond (eqb c.args.way greatest) (ltb c.args.y c.args.x) (ltb c.args.x c.args.y) ≡ c.if-way-eq-GREATEST.first
+tested c = elim c.if-way-eq-GREATEST.branch [
+  | then-way-eq-GREATEST w ↦ rw (eq-eqb _ greatest w.if-way-eq-GREATEST.true) (sym w.first-is)
+  | else-way-eq-GREATEST w ↦ rw (ne_eqb _ greatest w.if-way-eq-GREATEST.false) (sym w.first-is)
+]
+
 pub returns-then-x-eq-NONE : goal.returns-then-x-eq-NONE
 returns-then-x-eq-NONE c = let a = c.args in sym (chosen-second (choice a.way) a.x a.y c.if-x-eq-NONE.true)
 
@@ -33,20 +40,12 @@ returns-then-y-eq-NONE c = let a = c.args in sym (chosen-first (choice a.way) a.
 
 pub returns-then-first : goal.returns-then-first
 returns-then-first c =
-    let test : cond (eqb c.args.way greatest) (ltb c.args.y c.args.x) (ltb c.args.x c.args.y) ≡ c.if-way-eq-GREATEST.first = elim c.if-way-eq-GREATEST.branch [
-      | then-way-eq-GREATEST w ↦ rw (eq-eqb _ greatest w.if-way-eq-GREATEST.true) (sym w.first-is)
-      | else-way-eq-GREATEST w ↦ rw (ne_eqb _ greatest w.if-way-eq-GREATEST.false) (sym w.first-is)
-    ] in
     sym
-    (picked c.args.way c.args.x c.args.y _ c.if-x-eq-NONE.false c.if-y-eq-NONE.false test
+    (picked c.args.way c.args.x c.args.y _ c.if-x-eq-NONE.false c.if-y-eq-NONE.false (tested (goal.at.returns-then-first c).Joined-way-eq-GREATEST)
     ∙ ap (λ (b : Bool). cond b c.args.x c.args.y) c.if-first.true)
 
 pub returns-else-first : goal.returns-else-first
 returns-else-first c =
-    let test : cond (eqb c.args.way greatest) (ltb c.args.y c.args.x) (ltb c.args.x c.args.y) ≡ c.if-way-eq-GREATEST.first = elim c.if-way-eq-GREATEST.branch [
-      | then-way-eq-GREATEST w ↦ rw (eq-eqb _ greatest w.if-way-eq-GREATEST.true) (sym w.first-is)
-      | else-way-eq-GREATEST w ↦ rw (ne_eqb _ greatest w.if-way-eq-GREATEST.false) (sym w.first-is)
-    ] in
     sym
-    (picked c.args.way c.args.x c.args.y _ c.if-x-eq-NONE.false c.if-y-eq-NONE.false test
+    (picked c.args.way c.args.x c.args.y _ c.if-x-eq-NONE.false c.if-y-eq-NONE.false (tested (goal.at.returns-else-first c).Joined-way-eq-GREATEST)
     ∙ ap (λ (b : Bool). cond b c.args.x c.args.y) c.if-first.false)
