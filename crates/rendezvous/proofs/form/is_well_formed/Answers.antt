@@ -12,9 +12,9 @@ use Rattle.aggregate.proofs.Laws.{valid-k}
 use Rattle.stations.specs.Kept.{kept_read}
 use Rattle.rendezvous.specs.Net.{net_in}
 use Rattle.rendezvous.specs.Internal.Receivers.{place_formed}
-use Rattle.rendezvous.proofs.FormAfter.{barred_config, barred_place, all_placed, place_read, unformed_flag}
+use Rattle.rendezvous.proofs.FormAfter.{barred_config, barred_place, all_placed, place_read, placed, unformed_flag}
 use Rattle.rendezvous.proofs.form.is_well_formed.Goals as goal
-use Rattle.rendezvous.proofs.form.is_well_formed.Goals.{then-carrying-eq-CARRYING, else-carrying-eq-CARRYING}
+use Rattle.rendezvous.proofs.form.is_well_formed.Goals.{Joined-carrying-eq-CARRYING, then-carrying-eq-CARRYING, else-carrying-eq-CARRYING}
 use Rattle.rendezvous.proofs.form.is_well_formed.Goals.{Else-carrying-gt-CARRYING, Else-not-is_valid, In-loop-i}
 
 -- the flag is one of the two
@@ -30,6 +30,17 @@ opened c = ap valid (sym c.config_in-t.ensures) ∙ sym c.is_valid.ensures ∙ c
 
 low : (c : In-loop-i) → c.loop-i.i < 64
 low c = omega (arith, (valid-k _ (sym c.is_valid.ensures ∙ c.if-not-is_valid.false)).1, c.loop-i-test.true)
+
+-- whether the place that a turn reads is in form, as either branch of the test tells it
+placed_told : (c : Joined-carrying-eq-CARRYING) → c.loop-i.i < 64 → c.if-carrying-eq-CARRYING.placed ≡ placed (net_in c.args.net.now c.args.totals.now) c.loop-i.i
+placed_told c few =
+    let i = c.loop-i.i in
+    let told : c.if-carrying-eq-CARRYING.placed ≡ place_formed c.carrying_in-carrying.result c.config_in-t.result i c.read-s.result (kept_read c.args.totals.now i)
+    = elim c.if-carrying-eq-CARRYING.branch [
+      | then-carrying-eq-CARRYING w ↦ rw (eq-eqb _ 1 w.if-carrying-eq-CARRYING.true) (w.placed-is ∙ w.is_carrying_place-placed.ensures)
+      | else-carrying-eq-CARRYING w ↦ rw (ne_eqb _ 1 w.if-carrying-eq-CARRYING.false) (w.placed-is ∙ w.is_well_formed-placed.ensures)
+    ] in
+    told ∙ place_read c.args.net.now c.args.totals.now i few c.carrying_in-carrying.ensures c.config_in-t.ensures c.read-s.ensures
 
 pub returns-then-carrying-gt-CARRYING : goal.returns-then-carrying-gt-CARRYING
 returns-then-carrying-gt-CARRYING c =
@@ -51,33 +62,17 @@ read-s-requires c = low c
 
 pub returns-then-not-placed : goal.returns-then-not-placed
 returns-then-not-placed c =
-    let words = c.args.net.now in
-    let totals = c.args.totals.now in
-    let net = net_in words totals in
+    let net = net_in c.args.net.now c.args.totals.now in
     let at = goal.at.returns-then-not-placed c in
     let i = c.loop-i.i in
-    let told : c.if-carrying-eq-CARRYING.placed ≡ place_formed c.carrying_in-carrying.result c.config_in-t.result i c.read-s.result (kept_read totals i)
-    = elim c.if-carrying-eq-CARRYING.branch [
-      | then-carrying-eq-CARRYING w ↦ rw (eq-eqb _ 1 w.if-carrying-eq-CARRYING.true) (w.placed-is ∙ w.is_carrying_place-placed.ensures)
-      | else-carrying-eq-CARRYING w ↦ rw (ne_eqb _ 1 w.if-carrying-eq-CARRYING.false) (w.placed-is ∙ w.is_well_formed-placed.ensures)
-    ] in
-    let read = place_read words totals i (low at.In-loop-i) c.carrying_in-carrying.ensures c.config_in-t.ensures c.read-s.ensures in
-    let broken = sym (told ∙ read) ∙ c.if-not-placed.true in
+    let broken = sym (placed_told at.Joined-carrying-eq-CARRYING (low at.In-loop-i)) ∙ c.if-not-placed.true in
     sym (barred_place net (flag_told at.Else-carrying-gt-CARRYING) i (omega (arith, c.loop-i-test.true, same-k at.Else-not-is_valid)) broken)
 
 pub loop-i-preserved : goal.loop-i-preserved
 loop-i-preserved c =
-    let words = c.args.net.now in
-    let totals = c.args.totals.now in
     let at = goal.at.loop-i-preserved c in
     let l = c.loop-i in
-    let told : c.if-carrying-eq-CARRYING.placed ≡ place_formed c.carrying_in-carrying.result c.config_in-t.result l.i c.read-s.result (kept_read totals l.i)
-    = elim c.if-carrying-eq-CARRYING.branch [
-      | then-carrying-eq-CARRYING w ↦ rw (eq-eqb _ 1 w.if-carrying-eq-CARRYING.true) (w.placed-is ∙ w.is_carrying_place-placed.ensures)
-      | else-carrying-eq-CARRYING w ↦ rw (ne_eqb _ 1 w.if-carrying-eq-CARRYING.false) (w.placed-is ∙ w.is_well_formed-placed.ensures)
-    ] in
-    let read = place_read words totals l.i (low at.In-loop-i) c.carrying_in-carrying.ensures c.config_in-t.ensures c.read-s.ensures in
-    (omega (arith, c.loop-i-test.true), rw (all_below_more _ l.i, l.invariant.1, sym (told ∙ read) ∙ c.if-not-placed.false))
+    (omega (arith, c.loop-i-test.true), rw (all_below_more _ l.i, l.invariant.1, sym (placed_told at.Joined-carrying-eq-CARRYING (low at.In-loop-i)) ∙ c.if-not-placed.false))
 
 pub returns : goal.returns
 returns c =

@@ -23,14 +23,11 @@ use Rattle.rendezvous.specs.declared.listing.States.{States}
 use Rattle.rendezvous.specs.Net.{Net, net_in, station, well_formed}
 use Rattle.rendezvous.specs.Internal.Receivers.{in_state, place_formed, sends_of, AreSends, Surveyed}
 use Rattle.rendezvous.proofs.Kept.{kept_none, kept_next}
-use Rattle.rendezvous.proofs.FormAfter.{barred_config, barred_place, all_placed, place_read, unformed_flag}
+use Rattle.rendezvous.proofs.FormAfter.{barred_config, barred_place, all_placed, place_read, placed, unformed_flag}
+use Rattle.rendezvous.proofs.listing.survey.Invariants.{below}
 use Rattle.rendezvous.proofs.listing.survey.Goals as goal
-use Rattle.rendezvous.proofs.listing.survey.Goals.{then-carrying-eq-CARRYING, else-carrying-eq-CARRYING}
+use Rattle.rendezvous.proofs.listing.survey.Goals.{Joined-carrying-eq-CARRYING, then-carrying-eq-CARRYING, else-carrying-eq-CARRYING}
 use Rattle.rendezvous.proofs.listing.survey.Goals.{Else-carrying-gt-CARRYING, Else-not-is_valid, In-loop-j, After-bit_if-asleep, After-bit_if-active}
-
--- those of the stations below i in a state
-abbrev below : Net → ℕ → ℕ → ℕ
-below net state i = set_of i (λ x. eqb (station net x).state state)
 
 -- a net out of form
 unformed : (net : Net) (b : Bool) (states : States) (kept : List ℕ) → b ≡ false → well_formed net ≡ false → Surveyed net b states kept
@@ -57,6 +54,17 @@ low c =
 -- the flag is one of the two
 flag_told : (c : Else-carrying-gt-CARRYING) → (net_in c.args.net.now c.args.totals.now).carrying ≤ 1
 flag_told c = omega (arith, c.if-carrying-gt-CARRYING.false, c.carrying_in-carrying.ensures)
+
+-- whether the place that a turn reads is in form, as either branch of the test tells it
+placed_told : (c : Joined-carrying-eq-CARRYING) → c.loop-j.j < 64 → c.if-carrying-eq-CARRYING.placed ≡ placed (net_in c.args.net.now c.args.totals.now) c.loop-j.j
+placed_told c few =
+    let i = c.loop-j.j in
+    let told : c.if-carrying-eq-CARRYING.placed ≡ place_formed c.carrying_in-carrying.result c.config_in-t.result i c.read-s.result (kept_read c.args.totals.now i)
+    = elim c.if-carrying-eq-CARRYING.branch [
+      | then-carrying-eq-CARRYING w ↦ rw (eq-eqb _ 1 w.if-carrying-eq-CARRYING.true) (w.placed-is ∙ w.is_carrying_place-placed.ensures)
+      | else-carrying-eq-CARRYING w ↦ rw (ne_eqb _ 1 w.if-carrying-eq-CARRYING.false) (w.placed-is ∙ w.is_well_formed-placed.ensures)
+    ] in
+    told ∙ place_read c.args.net.now c.args.totals.now i few c.carrying_in-carrying.ensures c.config_in-t.ensures c.read-s.ensures
 
 -- a turn adds station j to the set of its state
 asleep-next : (c : After-bit_if-asleep) → (c.loop-j.asleep + c.bit_if-asleep.result ≡ below (net_in c.args.net.now c.args.totals.now) events.asleep (c.loop-j.j + 1)) × (c.loop-j.asleep + c.bit_if-asleep.result < 2 ^ 64)
@@ -88,18 +96,10 @@ read-s-requires c = low c
 
 pub returns-then-not-placed : goal.returns-then-not-placed
 returns-then-not-placed c =
-    let words = c.args.net.now in
-    let totals = c.args.totals.now in
-    let net = net_in words totals in
+    let net = net_in c.args.net.now c.args.totals.now in
     let at = goal.at.returns-then-not-placed c in
     let l = c.loop-j in
-    let told : c.if-carrying-eq-CARRYING.placed ≡ place_formed c.carrying_in-carrying.result c.config_in-t.result l.j c.read-s.result (kept_read totals l.j)
-    = elim c.if-carrying-eq-CARRYING.branch [
-      | then-carrying-eq-CARRYING w ↦ rw (eq-eqb _ 1 w.if-carrying-eq-CARRYING.true) (w.placed-is ∙ w.is_carrying_place-placed.ensures)
-      | else-carrying-eq-CARRYING w ↦ rw (ne_eqb _ 1 w.if-carrying-eq-CARRYING.false) (w.placed-is ∙ w.is_well_formed-placed.ensures)
-    ] in
-    let read = place_read words totals l.j (low (goal.at.returns-then-not-placed c).In-loop-j) c.carrying_in-carrying.ensures c.config_in-t.ensures c.read-s.ensures in
-    let broken = sym (told ∙ read) ∙ c.if-not-placed.true in
+    let broken = sym (placed_told at.Joined-carrying-eq-CARRYING (low at.In-loop-j)) ∙ c.if-not-placed.true in
     let inside : l.j < net.config.k = omega (arith, c.loop-j-test.true, same-k at.Else-not-is_valid) in
     unformed _ _ _ _ c.unformed-then-not-placed.ensures (barred_place net (flag_told at.Else-carrying-gt-CARRYING) l.j inside broken)
 
@@ -117,20 +117,12 @@ overflow_add-j c = omega (arith, low (goal.at.overflow_add-j c).In-loop-j)
 
 pub loop-j-preserved : goal.loop-j-preserved
 loop-j-preserved c =
-    let words = c.args.net.now in
-    let totals = c.args.totals.now in
-    let net = net_in words totals in
+    let net = net_in c.args.net.now c.args.totals.now in
     let at = goal.at.loop-j-preserved c in
     let l = c.loop-j in
-    let told : c.if-carrying-eq-CARRYING.placed ≡ place_formed c.carrying_in-carrying.result c.config_in-t.result l.j c.read-s.result (kept_read totals l.j)
-    = elim c.if-carrying-eq-CARRYING.branch [
-      | then-carrying-eq-CARRYING w ↦ rw (eq-eqb _ 1 w.if-carrying-eq-CARRYING.true) (w.placed-is ∙ w.is_carrying_place-placed.ensures)
-      | else-carrying-eq-CARRYING w ↦ rw (ne_eqb _ 1 w.if-carrying-eq-CARRYING.false) (w.placed-is ∙ w.is_well_formed-placed.ensures)
-    ] in
-    let read = place_read words totals l.j (low (goal.at.loop-j-preserved c).In-loop-j) c.carrying_in-carrying.ensures c.config_in-t.ensures c.read-s.ensures in
     let sends = c.find_sends-sends.ensures ∙ ap₂ (λ (t : Config) (s : Station). sends_of t l.j s) c.config_in-t.ensures c.read-s.ensures in (
       omega arith,
-      rw (all_below_more _ l.j, l.invariant.1, sym (told ∙ read) ∙ c.if-not-placed.false),
+      rw (all_below_more _ l.j, l.invariant.1, sym (placed_told at.Joined-carrying-eq-CARRYING (low at.In-loop-j)) ∙ c.if-not-placed.false),
       (asleep-next at.After-bit_if-asleep).0,
       (active-next at.After-bit_if-active).0,
       subst (AreSends net (l.j + 1)) (sym c.keep.ensures) (kept_next net l.invariant.4 (low at.In-loop-j) sends),

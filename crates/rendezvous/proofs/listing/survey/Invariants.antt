@@ -16,12 +16,8 @@ use Rattle.rendezvous.proofs.FormAfter.{placed}
 use Rattle.rendezvous.proofs.listing.survey.Given as goal
 
 -- those of the stations below i in a state
-abbrev below : Net → ℕ → ℕ → ℕ
+abbrev pub below : Net → ℕ → ℕ → ℕ
 below net state i = set_of i (λ x. eqb (station net x).state state)
-
--- a net out of form
-unformed : (net : Net) (b : Bool) (states : States) (kept : List ℕ) → b ≡ false → well_formed net ≡ false → Surveyed net b states kept
-unformed net b states kept e f = record { form = e ∙ sym f; states_are = λ t. clash t e; sends_are = λ t. clash t e }
 
 abbrev pub invariant-loop-j : goal.invariant-loop-j
 invariant-loop-j l = (l.j ≤ l.k)
