@@ -19,14 +19,14 @@ use Rattle.rendezvous.proofs.RowSets.{picked-flat}
 use Rattle.rendezvous.proofs.Going.{held-told, filled, config_low, rests, both_low, sender-low, receiver-low, joins, ends_outside, agree}
 use Rattle.rendezvous.proofs.Going.{others_hold, goes_further}
 use Rattle.rendezvous.proofs.run.Goals as goal
-use Rattle.rendezvous.proofs.run.Goals.{After-make-arg-in-loop-made-1, then-carrying_in-eq-CARRYING, else-carrying_in-eq-CARRYING}
+use Rattle.rendezvous.proofs.run.Goals.{In-Step, Joined-carrying_in-eq-CARRYING, then-carrying_in-eq-CARRYING, else-carrying_in-eq-CARRYING}
 
 -- what stands beside stays where the spare does
 beside : {l m : List ℕ} → l ≡ m → set l 0 (get_or l 0 0 / 2 ^ 8) ≡ set m 0 (get_or m 0 0 / 2 ^ 8)
 beside e = ap (λ (x : List ℕ). set x 0 (get_or x 0 0 / 2 ^ 8)) e
 
--- where a step was drawn in a turn: it is the one that the rules pick
-picks : (c : After-make-arg-in-loop-made-1)
+-- what is drawn in a turn is what the rules pick
+picks : (c : Joined-carrying_in-eq-CARRYING)
     → c.if-carrying_in-eq-CARRYING.drawn ≡ picked (listed rules (net_in c.loop-made.net c.loop-made.totals)) (get_or c.args.draws.now c.loop-made.made 0)
 picks c =
     let l = c.loop-made in
@@ -40,11 +40,13 @@ picks c =
     ]
 
 -- the stations of that step have places
-low-sender : (c : After-make-arg-in-loop-made-1) → c.in-Step.step.sender < 64
-low-sender c = sender-low c.loop-made.invariant.0 c.config_in-t.ensures c.loop-made-test.true (picks c) c.in-Step.is
+low-sender : (c : In-Step) → c.if-carrying_in-eq-CARRYING.drawn ≡ picked (listed rules (net_in c.loop-made.net c.loop-made.totals)) (get_or c.args.draws.now c.loop-made.made 0)
+    → c.in-Step.step.sender < 64
+low-sender c drawn = sender-low c.loop-made.invariant.0 c.config_in-t.ensures c.loop-made-test.true drawn c.in-Step.is
 
-low-receiver : (c : After-make-arg-in-loop-made-1) → c.in-Step.step.receiver < 64
-low-receiver c = receiver-low c.loop-made.invariant.0 c.config_in-t.ensures c.loop-made-test.true (picks c) c.in-Step.is
+low-receiver : (c : In-Step) → c.if-carrying_in-eq-CARRYING.drawn ≡ picked (listed rules (net_in c.loop-made.net c.loop-made.totals)) (get_or c.args.draws.now c.loop-made.made 0)
+    → c.in-Step.step.receiver < 64
+low-receiver c drawn = receiver-low c.loop-made.invariant.0 c.config_in-t.ensures c.loop-made-test.true drawn c.in-Step.is
 
 pub survey-found-requires : goal.survey-found-requires
 survey-found-requires c = length-replicate {A = ℕ} 192 0
@@ -93,41 +95,35 @@ offset_bounds-draws-made-else-carrying_in-eq-CARRYING c = omega (arith, c.loop-m
 pub returns-in_default : goal.returns-in_default
 returns-in_default c =
     let l = c.loop-made in
-    let rows = filled l.invariant.0 in
-    let picks : c.if-carrying_in-eq-CARRYING.drawn ≡ picked (listed rules (net_in l.net l.totals)) (get_or c.args.draws.now l.made 0) =
-    elim c.if-carrying_in-eq-CARRYING.branch [
-      | then-carrying_in-eq-CARRYING w ↦ w.drawn-is ∙ w.choose_beside-drawn.ensures l.totals rows
-      | else-carrying_in-eq-CARRYING w ↦
-          w.drawn-is
-          ∙ picked-flat (net_in l.net l.totals) rows (λ e. w.if-carrying_in-eq-CARRYING.false (c.carrying_in.ensures ∙ e)) c.config_in-t.ensures
-          (get_or c.args.draws.now l.made 0) w.pick-drawn.ensures
-    ] in record {
-      outcome = outcome_of c.stop.ensures (net_in l.net l.totals) ∙ sym (rests l.invariant.0 c.config_in-t.ensures c.loop-made-test.true picks c.in_default.is);
+    let drawn = picks (goal.at.returns-in_default c).Joined-carrying_in-eq-CARRYING in record {
+      outcome = outcome_of c.stop.ensures (net_in l.net l.totals) ∙ sym (rests l.invariant.0 c.config_in-t.ensures c.loop-made-test.true drawn c.in_default.is);
       beside = beside l.invariant.1;
     }
 
 pub make-requires : goal.make-requires
-make-requires c = record {
-  places = (low-sender c, low-receiver c);
-  config = c.config_in-t.ensures;
-  joins = joins c.loop-made.invariant.0 c.config_in-t.ensures c.loop-made-test.true (picks c) c.in-Step.is;
-}
+make-requires c =
+    let at = goal.at.make-requires c in
+    let drawn = picks at.Joined-carrying_in-eq-CARRYING in record {
+      places = (low-sender at.In-Step drawn, low-receiver at.In-Step drawn);
+      config = c.config_in-t.ensures;
+      joins = joins c.loop-made.invariant.0 c.config_in-t.ensures c.loop-made-test.true drawn c.in-Step.is;
+    }
 
 pub renew-states-requires : goal.renew-states-requires
-renew-states-requires c = low-sender (goal.at.renew-states-requires c).After-make-arg-in-loop-made-1
+renew-states-requires c = let at = goal.at.renew-states-requires c in low-sender at.In-Step (picks at.Joined-carrying_in-eq-CARRYING)
 
 pub renew-states-requires-in-loop-made : goal.renew-states-requires-in-loop-made
-renew-states-requires-in-loop-made c = low-receiver (goal.at.renew-states-requires-in-loop-made c).After-make-arg-in-loop-made-1
+renew-states-requires-in-loop-made c = let at = goal.at.renew-states-requires-in-loop-made c in low-receiver at.In-Step (picks at.Joined-carrying_in-eq-CARRYING)
 
 pub overflow_add-made : goal.overflow_add-made
 overflow_add-made c = omega (arith, c.loop-made-test.true, c.well_formed.1.1.0.0)
 
 pub keeps_form-requires : goal.keeps_form-requires
-keeps_form-requires c = low-receiver (goal.at.keeps_form-requires c).After-make-arg-in-loop-made-1
+keeps_form-requires c = let at = goal.at.keeps_form-requires c in low-receiver at.In-Step (picks at.Joined-carrying_in-eq-CARRYING)
 
 pub returns-then-not-keeps_form : goal.returns-then-not-keeps_form
 returns-then-not-keeps_form c =
-    let drawn = picks (goal.at.returns-then-not-keeps_form c).After-make-arg-in-loop-made-1 in record {
+    let drawn = picks (goal.at.returns-then-not-keeps_form c).Joined-carrying_in-eq-CARRYING in record {
       outcome = outcome_of c.stop_outside-then-not-keeps_form.ensures (net_in c.make.new.net c.make.new.totals)
           ∙ sym (ends_outside c.loop-made.invariant.0 c.config_in-t.ensures c.loop-made-test.true drawn c.in-Step.is
           c.make.ensures.made (sym c.keeps_form.ensures ∙ c.if-not-keeps_form.true));
@@ -139,7 +135,7 @@ follow-sizes-requires c =
     let inv = c.loop-made.invariant.0 in
     let told = c.config_in-t.ensures in
     let test = c.loop-made-test.true in
-    let drawn = picks (goal.at.follow-sizes-requires c).After-make-arg-in-loop-made-1 in
+    let drawn = picks (goal.at.follow-sizes-requires c).Joined-carrying_in-eq-CARRYING in
     let given = c.in-Step.is in record {
       places = both_low inv told test drawn given;
       states = agree inv told test drawn given c.make.ensures.made c.renew-states.ensures c.renew-states-in-loop-made.ensures;
@@ -151,7 +147,7 @@ loop-made-smaller c = omega (arith, c.loop-made-test.true)
 
 pub loop-made-preserved : goal.loop-made-preserved
 loop-made-preserved c =
-    let drawn = picks (goal.at.loop-made-preserved c).After-make-arg-in-loop-made-1 in (
+    let drawn = picks (goal.at.loop-made-preserved c).Joined-carrying_in-eq-CARRYING in (
       goes_further c.loop-made.invariant.0 c.config_in-t.ensures c.loop-made-test.true drawn c.in-Step.is
           c.make.ensures.made c.renew-states.ensures c.renew-states-in-loop-made.ensures
           (sym c.keeps_form.ensures ∙ c.if-not-keeps_form.false) c.follow-sizes.ensures,
