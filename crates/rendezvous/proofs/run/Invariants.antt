@@ -1,9 +1,8 @@
 -- `rendezvous::run` meets its contract. Invariant (`Going`): the net reached is well-formed, and the run is one from it, after the steps made, by
 -- the draws that are left; what its stations may send and its rows are known. Assumes nothing.
-use mathlib.Core.Path.{◌≡◌, ap}
-use mathlib.Core.List.{List}
-use Prim.Native.Nat.{ℕ, ◌-◌, ◌/◌, ◌^◌}
-use lib.ListN.{length, get_or, set}
+use mathlib.Core.Path.{◌≡◌}
+use Prim.Native.Nat.{◌-◌}
+use lib.ListN.{length}
 use Rattle.stations.specs.Words.{spare_in}
 use Rattle.rendezvous.specs.Net.{net_in}
 use Rattle.rendezvous.proofs.Going.{Going}

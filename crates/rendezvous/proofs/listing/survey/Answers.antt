@@ -20,7 +20,7 @@ use Rattle.station.specs.declared.Station.{Station}
 use Rattle.station.specs.Events as events
 use Rattle.stations.specs.Kept.{kept_read}
 use Rattle.rendezvous.specs.declared.listing.States.{States}
-use Rattle.rendezvous.specs.Net.{Net, net_in, station, well_formed}
+use Rattle.rendezvous.specs.Net.{Net, net_in, well_formed}
 use Rattle.rendezvous.specs.Internal.Receivers.{in_state, place_formed, sends_of, AreSends, Surveyed}
 use Rattle.rendezvous.proofs.Kept.{kept_none, kept_next}
 use Rattle.rendezvous.proofs.FormAfter.{barred_config, barred_place, all_placed, place_read, placed, unformed_flag}

@@ -1,17 +1,14 @@
 -- `rendezvous::listing::survey` meets its contract. Invariant: the stations below j are in form, both sets are of them, and what they may send is
 -- kept; one that is not in form ends it. Assumes nothing.
-use mathlib.Core.Path.{◌≡◌, sym, ◌∙◌}
-use mathlib.Core.Bool.{Bool, true, false}
-use mathlib.Core.List.{List}
+use mathlib.Core.Path.{◌≡◌}
+use mathlib.Core.Bool.{true}
 use Prim.Native.Nat.{ℕ, ◌-◌, ◌≤◌}
 use lib.Dec.{eqb}
 use Rattle.finite.specs.Below.{all_below}
-use Rattle.finite.proofs.Cases.{clash}
 use Rattle.bitset.specs.Internal.Selected.{set_of}
 use Rattle.station.specs.Events as events
-use Rattle.rendezvous.specs.declared.listing.States.{States}
-use Rattle.rendezvous.specs.Net.{Net, net_in, station, well_formed}
-use Rattle.rendezvous.specs.Internal.Receivers.{AreSends, Surveyed}
+use Rattle.rendezvous.specs.Net.{Net, net_in, station}
+use Rattle.rendezvous.specs.Internal.Receivers.{AreSends}
 use Rattle.rendezvous.proofs.FormAfter.{placed}
 use Rattle.rendezvous.proofs.listing.survey.Given as goal
 
