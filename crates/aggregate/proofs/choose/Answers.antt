@@ -26,7 +26,8 @@ picked way x y first some other test =
     chosen_both (choice way) x y some other ∙ picks (eqb way greatest) x y ∙ ap (λ (b : Bool). cond b x y) test
 
 -- what either branch of the test gave
-tested : (c : Joined-way-eq-GREATEST) → cond (eqb c.args.way greatest) (ltb c.args.y c.args.x) (ltb c.args.x c.args.y) ≡ c.if-way-eq-GREATEST.first
+tested : (c : Joined-way-eq-GREATEST)
+    → cond (eqb c.args.way greatest) (ltb c.args.y c.args.x) (ltb c.args.x c.args.y) ≡ c.if-way-eq-GREATEST.first
 tested c = elim c.if-way-eq-GREATEST.branch [
   | then-way-eq-GREATEST w ↦ rw (eq-eqb _ greatest w.if-way-eq-GREATEST.true) (sym w.first-is)
   | else-way-eq-GREATEST w ↦ rw (ne_eqb _ greatest w.if-way-eq-GREATEST.false) (sym w.first-is)
@@ -40,12 +41,14 @@ returns-then-y-eq-NONE c = let a = c.args in sym (chosen-first (choice a.way) a.
 
 pub returns-then-first : goal.returns-then-first
 returns-then-first c =
+    let test = tested (goal.at.returns-then-first c).Joined-way-eq-GREATEST in
     sym
-    (picked c.args.way c.args.x c.args.y _ c.if-x-eq-NONE.false c.if-y-eq-NONE.false (tested (goal.at.returns-then-first c).Joined-way-eq-GREATEST)
+    (picked c.args.way c.args.x c.args.y _ c.if-x-eq-NONE.false c.if-y-eq-NONE.false test
     ∙ ap (λ (b : Bool). cond b c.args.x c.args.y) c.if-first.true)
 
 pub returns-else-first : goal.returns-else-first
 returns-else-first c =
+    let test = tested (goal.at.returns-else-first c).Joined-way-eq-GREATEST in
     sym
-    (picked c.args.way c.args.x c.args.y _ c.if-x-eq-NONE.false c.if-y-eq-NONE.false (tested (goal.at.returns-else-first c).Joined-way-eq-GREATEST)
+    (picked c.args.way c.args.x c.args.y _ c.if-x-eq-NONE.false c.if-y-eq-NONE.false test
     ∙ ap (λ (b : Bool). cond b c.args.x c.args.y) c.if-first.false)

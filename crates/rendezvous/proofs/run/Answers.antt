@@ -40,11 +40,13 @@ picks c =
     ]
 
 -- the stations of that step have places
-low-sender : (c : In-Step) → c.if-carrying_in-eq-CARRYING.drawn ≡ picked (listed rules (net_in c.loop-made.net c.loop-made.totals)) (get_or c.args.draws.now c.loop-made.made 0)
+low-sender : (c : In-Step)
+    → c.if-carrying_in-eq-CARRYING.drawn ≡ picked (listed rules (net_in c.loop-made.net c.loop-made.totals)) (get_or c.args.draws.now c.loop-made.made 0)
     → c.in-Step.step.sender < 64
 low-sender c drawn = sender-low c.loop-made.invariant.0 c.config_in-t.ensures c.loop-made-test.true drawn c.in-Step.is
 
-low-receiver : (c : In-Step) → c.if-carrying_in-eq-CARRYING.drawn ≡ picked (listed rules (net_in c.loop-made.net c.loop-made.totals)) (get_or c.args.draws.now c.loop-made.made 0)
+low-receiver : (c : In-Step)
+    → c.if-carrying_in-eq-CARRYING.drawn ≡ picked (listed rules (net_in c.loop-made.net c.loop-made.totals)) (get_or c.args.draws.now c.loop-made.made 0)
     → c.in-Step.step.receiver < 64
 low-receiver c drawn = receiver-low c.loop-made.invariant.0 c.config_in-t.ensures c.loop-made-test.true drawn c.in-Step.is
 
@@ -96,7 +98,8 @@ pub returns-in_default : goal.returns-in_default
 returns-in_default c =
     let l = c.loop-made in
     let drawn = picks (goal.at.returns-in_default c).Joined-carrying_in-eq-CARRYING in record {
-      outcome = outcome_of c.stop.ensures (net_in l.net l.totals) ∙ sym (rests l.invariant.0 c.config_in-t.ensures c.loop-made-test.true drawn c.in_default.is);
+      outcome = outcome_of c.stop.ensures (net_in l.net l.totals)
+          ∙ sym (rests l.invariant.0 c.config_in-t.ensures c.loop-made-test.true drawn c.in_default.is);
       beside = beside l.invariant.1;
     }
 
@@ -110,16 +113,22 @@ make-requires c =
     }
 
 pub renew-states-requires : goal.renew-states-requires
-renew-states-requires c = let at = goal.at.renew-states-requires c in low-sender at.In-Step (picks at.Joined-carrying_in-eq-CARRYING)
+renew-states-requires c =
+    let at = goal.at.renew-states-requires c in
+    low-sender at.In-Step (picks at.Joined-carrying_in-eq-CARRYING)
 
 pub renew-states-requires-in-loop-made : goal.renew-states-requires-in-loop-made
-renew-states-requires-in-loop-made c = let at = goal.at.renew-states-requires-in-loop-made c in low-receiver at.In-Step (picks at.Joined-carrying_in-eq-CARRYING)
+renew-states-requires-in-loop-made c =
+    let at = goal.at.renew-states-requires-in-loop-made c in
+    low-receiver at.In-Step (picks at.Joined-carrying_in-eq-CARRYING)
 
 pub overflow_add-made : goal.overflow_add-made
 overflow_add-made c = omega (arith, c.loop-made-test.true, c.well_formed.1.1.0.0)
 
 pub keeps_form-requires : goal.keeps_form-requires
-keeps_form-requires c = let at = goal.at.keeps_form-requires c in low-receiver at.In-Step (picks at.Joined-carrying_in-eq-CARRYING)
+keeps_form-requires c =
+    let at = goal.at.keeps_form-requires c in
+    low-receiver at.In-Step (picks at.Joined-carrying_in-eq-CARRYING)
 
 pub returns-then-not-keeps_form : goal.returns-then-not-keeps_form
 returns-then-not-keeps_form c =

@@ -32,10 +32,12 @@ low : (c : In-loop-i) → c.loop-i.i < 64
 low c = omega (arith, (valid-k _ (sym c.is_valid.ensures ∙ c.if-not-is_valid.false)).1, c.loop-i-test.true)
 
 -- whether the place that a turn reads is in form, as either branch of the test tells it
-placed_told : (c : Joined-carrying-eq-CARRYING) → c.loop-i.i < 64 → c.if-carrying-eq-CARRYING.placed ≡ placed (net_in c.args.net.now c.args.totals.now) c.loop-i.i
+placed_told : (c : Joined-carrying-eq-CARRYING) → c.loop-i.i < 64
+    → c.if-carrying-eq-CARRYING.placed ≡ placed (net_in c.args.net.now c.args.totals.now) c.loop-i.i
 placed_told c few =
     let i = c.loop-i.i in
-    let told : c.if-carrying-eq-CARRYING.placed ≡ place_formed c.carrying_in-carrying.result c.config_in-t.result i c.read-s.result (kept_read c.args.totals.now i)
+    let t = c.config_in-t.result in
+    let told : c.if-carrying-eq-CARRYING.placed ≡ place_formed c.carrying_in-carrying.result t i c.read-s.result (kept_read c.args.totals.now i)
     = elim c.if-carrying-eq-CARRYING.branch [
       | then-carrying-eq-CARRYING w ↦ rw (eq-eqb _ 1 w.if-carrying-eq-CARRYING.true) (w.placed-is ∙ w.is_carrying_place-placed.ensures)
       | else-carrying-eq-CARRYING w ↦ rw (ne_eqb _ 1 w.if-carrying-eq-CARRYING.false) (w.placed-is ∙ w.is_well_formed-placed.ensures)
@@ -72,7 +74,8 @@ pub loop-i-preserved : goal.loop-i-preserved
 loop-i-preserved c =
     let at = goal.at.loop-i-preserved c in
     let l = c.loop-i in
-    (omega (arith, c.loop-i-test.true), rw (all_below_more _ l.i, l.invariant.1, sym (placed_told at.Joined-carrying-eq-CARRYING (low at.In-loop-i)) ∙ c.if-not-placed.false))
+    let formed = sym (placed_told at.Joined-carrying-eq-CARRYING (low at.In-loop-i)) ∙ c.if-not-placed.false in
+    (omega (arith, c.loop-i-test.true), rw (all_below_more _ l.i, l.invariant.1, formed))
 
 pub returns : goal.returns
 returns c =

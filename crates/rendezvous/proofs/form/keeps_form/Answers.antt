@@ -15,7 +15,8 @@ receiver : (c : After-load-r) → let a = c.args in c.load-r.result ≡ station_
 receiver c = c.load-r.ensures ∙ station_read_lem c.args.net.now c.args.step.receiver c.requires
 
 pub returns-then-step-eq-TELL : goal.returns-then-step-eq-TELL
-returns-then-step-eq-TELL c = rw c.if-step-eq-TELL.true (ap (λ (s : Station). eqb s.waits 0) (receiver (goal.at.returns-then-step-eq-TELL c).After-load-r))
+returns-then-step-eq-TELL c =
+    rw c.if-step-eq-TELL.true (ap (λ (s : Station). eqb s.waits 0) (receiver (goal.at.returns-then-step-eq-TELL c).After-load-r))
 
 pub returns : goal.returns
 returns c =

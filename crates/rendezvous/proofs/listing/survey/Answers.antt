@@ -56,10 +56,12 @@ flag_told : (c : Else-carrying-gt-CARRYING) → (net_in c.args.net.now c.args.to
 flag_told c = omega (arith, c.if-carrying-gt-CARRYING.false, c.carrying_in-carrying.ensures)
 
 -- whether the place that a turn reads is in form, as either branch of the test tells it
-placed_told : (c : Joined-carrying-eq-CARRYING) → c.loop-j.j < 64 → c.if-carrying-eq-CARRYING.placed ≡ placed (net_in c.args.net.now c.args.totals.now) c.loop-j.j
+placed_told : (c : Joined-carrying-eq-CARRYING) → c.loop-j.j < 64
+    → c.if-carrying-eq-CARRYING.placed ≡ placed (net_in c.args.net.now c.args.totals.now) c.loop-j.j
 placed_told c few =
     let i = c.loop-j.j in
-    let told : c.if-carrying-eq-CARRYING.placed ≡ place_formed c.carrying_in-carrying.result c.config_in-t.result i c.read-s.result (kept_read c.args.totals.now i)
+    let t = c.config_in-t.result in
+    let told : c.if-carrying-eq-CARRYING.placed ≡ place_formed c.carrying_in-carrying.result t i c.read-s.result (kept_read c.args.totals.now i)
     = elim c.if-carrying-eq-CARRYING.branch [
       | then-carrying-eq-CARRYING w ↦ rw (eq-eqb _ 1 w.if-carrying-eq-CARRYING.true) (w.placed-is ∙ w.is_carrying_place-placed.ensures)
       | else-carrying-eq-CARRYING w ↦ rw (ne_eqb _ 1 w.if-carrying-eq-CARRYING.false) (w.placed-is ∙ w.is_well_formed-placed.ensures)

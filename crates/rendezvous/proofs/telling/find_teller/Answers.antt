@@ -51,7 +51,8 @@ returns-then-i-root c kept =
 given : (c : After-read-s) (kept : List ℕ) → let n = net_in c.args.net.now [] in
     Teller n c.args.i (station n c.args.i).parent → Teller (net_in c.args.net.now kept) c.args.i c.read-s.result.parent
 given c kept T =
-    teller_any c.args.net.now [] kept c.args.i _ (subst (Teller (net_in c.args.net.now []) c.args.i) (sym (ap (λ (x : Station). x.parent) (read c))) T)
+    let same = sym (ap (λ (x : Station). x.parent) (read c)) in
+    teller_any c.args.net.now [] kept c.args.i _ (subst (Teller (net_in c.args.net.now []) c.args.i) same T)
 
 -- the parent, where it is not the desk
 parent_read : (c : After-read-p) → let n = net_in c.args.net.now [] in
@@ -61,7 +62,8 @@ parent_read c = c.read-p.ensures ∙ ap (λ (s : Station). station (net_in c.arg
 no_desk : (c : Else-parent-root) → let n = net_in c.args.net.now [] in
     eqb (station n c.args.i).parent (root_of n.config) ≡ false
 no_desk c =
-    ne_eqb _ _ (λ e. c.if-parent-root.false (ap (λ (s : Station). s.parent) c.read-s.ensures ∙ e ∙ sym (c.root-root.ensures ∙ ap root_of c.requires.config)))
+    let root = c.root-root.ensures ∙ ap root_of c.requires.config in
+    ne_eqb _ _ (λ e. c.if-parent-root.false (ap (λ (s : Station). s.parent) c.read-s.ensures ∙ e ∙ sym root))
 
 pub returns-then-parent-root : goal.returns-then-parent-root
 returns-then-parent-root c kept =
@@ -75,7 +77,8 @@ returns-then-parent-root c kept =
 pub read-p-requires : goal.read-p-requires
 read-p-requires c =
     let at = goal.at.read-p-requires c in
-    omega (arith, ap (λ (s : Station). s.parent) (read at.After-read-s), leb-false 64 (station (net at.Start) c.args.i).parent (passed at.Else-i-root).2)
+    let below = leb-false 64 (station (net at.Start) c.args.i).parent (passed at.Else-i-root).2 in
+    omega (arith, ap (λ (s : Station). s.parent) (read at.After-read-s), below)
 
 pub returns-then-p-eq-TOLD : goal.returns-then-p-eq-TOLD
 returns-then-p-eq-TOLD c kept =
