@@ -4,26 +4,21 @@
 ghost use Rattle.std.specs.Prelude.{◌≡◌};
 ghost use Rattle.refusal.specs.Refusal.{number_of};
 
-#[derive(Clone, Copy)]
+#[derive(Clone, Copy, Debug, PartialEq, Eq)]
 pub enum Refusal {
     // The net or station is not well-formed (01: out of form).
-    OutOfForm,
+    OutOfForm = 11,
     // The kind, the station number or the sum is out of range.
-    OutOfRange,
+    OutOfRange = 12,
     // The step is not allowed.
-    NotAllowed,
+    NotAllowed = 13,
     // A draw, where no step is allowed.
-    NothingAllowed,
+    NothingAllowed = 14,
 }
 
 // The number of a refusal.
 pub fn number(r: Refusal) -> u8
     ensures { result ≡ number_of r }
 {
-    match r {
-        Refusal::OutOfForm => 11,
-        Refusal::OutOfRange => 12,
-        Refusal::NotAllowed => 13,
-        Refusal::NothingAllowed => 14,
-    }
+    r as u8
 }
