@@ -1,13 +1,14 @@
 // What a station has gathered, class by class, and how two of these are joined. The crates above look inside none of these records.
 #![tactic(auto)]
 
-ghost use Rattle.std.specs.Prelude.{◌≡◌, true, cond, ℕ, ◌<◌, max, min, eqb, get_or};
+ghost use Rattle.std.specs.Prelude.{◌≡◌, true, cond, Some, None, ℕ, ◌<◌, max, min, eqb, get_or};
 ghost use Rattle.finite.specs.Numbers.{bytes};
 ghost use Rattle.aggregate.specs.Ways.{greatest, is_way, has_none, chosen_of, sum_joined, empty_sum};
 ghost use Rattle.aggregate.specs.Aggregate.{root_of, is_class_count, valid, used, cell, sum_bounded, cell_bounded, bounded, nothing, cell_gathered, gathered};
 ghost use Rattle.aggregate.specs.Aggregate.{joined, joinable, clipped, missing_word, from_words, of_words};
 
-// What a net is opened with: the number of its stations, and of the classes that are counted, its desk, and its way of joining counts.
+// What a net is opened with: the number of its stations, and of the classes that are counted, its desk, and its way of joining counts. The way is a
+// byte, as the C interface has it: any byte may be lent, and one that is no way is out of form.
 #[repr(C)]
 #[derive(Clone, Copy)]
 pub struct Config {
@@ -17,7 +18,7 @@ pub struct Config {
     pub way: u8,
 }
 
-// What a station counted, class by class; the largest count stands for no reading.
+// What a station counted, class by class; the largest count stands for no reading, as in the map that C lends.
 #[derive(Clone, Copy)]
 pub struct Reading {
     pub counts: [u32; 8],
@@ -30,19 +31,12 @@ pub struct Cell {
     pub missing: u8,
 }
 
-// What a station has gathered, of itself and of the stations that answered it.
+// What a station has gathered, of itself and of the stations that answered it: sums and missing numbers apart, as the C interface has them.
 #[repr(C)]
 #[derive(Clone, Copy)]
 pub struct Aggregate {
     pub sums: [u64; 8],
     pub missing: [u8; 8],
-}
-
-// Whether both of two aggregates were bounded, and their join.
-#[derive(Clone, Copy)]
-pub struct Joined {
-    pub bounded: bool,
-    pub held: Aggregate,
 }
 
 const MOST_CLASSES: usize = 8;
@@ -59,7 +53,7 @@ const LEAST: u8 = 2;
 
 const COUNTING: u8 = 3;
 
-// The greatest or the least of no readings.
+// The greatest or the least of no readings: a number, as the C interface has it.
 const NONE: u64 = 18446744073709551615;
 
 // Sums of well-formed stations are below this, but for none.
@@ -110,8 +104,18 @@ pub fn is_valid(t: Config) -> bool
 pub fn count_used(t: Config) -> usize
     ensures { result ≡ used t }
 {
-    let c = t.classes as usize;
-    if c < MOST_CLASSES { c } else { MOST_CLASSES }
+    (t.classes as usize).min(MOST_CLASSES)
+}
+
+// One of the eight classes, counted from 0.
+fn place(a: &Aggregate, i: usize) -> Cell
+    requires { i < 8 }
+    ensures { result ≡ cell a.now i }
+{
+    Cell {
+        sum: a.sums[i],
+        missing: a.missing[i],
+    }
 }
 
 // One class, counted from 0; past the eighth, nothing.
@@ -119,10 +123,7 @@ pub fn class_of(a: Aggregate, i: usize) -> Cell
     ensures { result ≡ cell a i }
 {
     if i < MOST_CLASSES {
-        return Cell {
-            sum: a.sums[i],
-            missing: a.missing[i],
-        };
+        return place(&a, i);
     }
     Cell { sum: 0, missing: 0 }
 }
@@ -145,18 +146,10 @@ fn is_cell_bounded(way: u8, x: Cell) -> bool
 pub fn is_bounded(t: Config, a: Aggregate) -> bool
     ensures { result ≡ bounded t a }
 {
-    let c = count_used(t);
-    let way = t.way;
-    let mut i: usize = 0;
-    while i < c {
-        let x = Cell {
-            sum: a.sums[i],
-            missing: a.missing[i],
-        };
-        if !is_cell_bounded(way, x) {
+    for class in 0..count_used(t) {
+        if !is_cell_bounded(t.way, place(&a, class)) {
             return false;
         }
-        i += 1;
     }
     true
 }
@@ -207,8 +200,7 @@ fn choose(way: u8, x: u64, y: u64) -> u64
     if y == NONE {
         return x;
     }
-    let first = if way == GREATEST { y < x } else { x < y };
-    if first { x } else { y }
+    if way == GREATEST { x.max(y) } else { x.min(y) }
 }
 
 // Two sums, joined the way.
@@ -226,75 +218,45 @@ fn join_sums(way: u8, x: u64, y: u64) -> u64
 pub fn gather(t: Config, r: Reading) -> Aggregate
     ensures { result ≡ gathered t r }
 {
-    let c = count_used(t);
-    let way = t.way;
     let mut sums = [0u64; 8];
     let mut missing = [0u8; 8];
-    let mut i: usize = 0;
-    while i < c {
-        let x = gather_cell(way, r.counts[i]);
-        sums[i] = x.sum;
-        missing[i] = x.missing;
-        i += 1;
+    for class in 0..count_used(t) {
+        let x = gather_cell(t.way, r.counts[class]);
+        sums[class] = x.sum;
+        missing[class] = x.missing;
     }
     Aggregate { sums, missing }
 }
 
-// Both together, in the classes in use, where each is bounded; else a as it was.
-pub fn join(t: Config, a: Aggregate, b: Aggregate) -> Joined
-    ensures bounded { result.bounded ≡ joinable t a b }
-    ensures held { result.held ≡ cond (joinable t a b) (joined t a b) a }
+// Both together, in the classes in use; none where one of them is not bounded.
+pub fn join(t: Config, a: Aggregate, b: Aggregate) -> Option<Aggregate>
+    ensures { result ≡ cond (joinable t a b) (Some (joined t a b)) None }
 {
-    let classes = count_used(t);
     let way = t.way;
-    let mut sums = a.sums;
-    let mut missing = a.missing;
-    let mut class: usize = 0;
-    while class < classes {
-        let x = Cell {
-            sum: a.sums[class],
-            missing: a.missing[class],
-        };
-        let y = Cell {
-            sum: b.sums[class],
-            missing: b.missing[class],
-        };
+    let mut both = a;
+    for class in 0..count_used(t) {
+        let x = place(&a, class);
+        let y = place(&b, class);
         if !(is_cell_bounded(way, x) & is_cell_bounded(way, y)) {
-            return Joined {
-                bounded: false,
-                held: a,
-            };
+            return None;
         }
-        sums[class] = join_sums(way, x.sum, y.sum);
-        missing[class] = x.missing + y.missing;
-        class += 1;
+        both.sums[class] = join_sums(way, x.sum, y.sum);
+        both.missing[class] = x.missing + y.missing;
     }
-    Joined {
-        bounded: true,
-        held: Aggregate { sums, missing },
-    }
+    Some(both)
 }
 
 // What a station gives of a: zero in the places past the classes in use.
 pub fn clip(t: Config, a: Aggregate) -> Aggregate
     ensures { result ≡ clipped t a }
 {
-    let c = count_used(t);
     let mut sums = [0u64; 8];
     let mut missing = [0u8; 8];
-    let mut i: usize = 0;
-    while i < c {
-        sums[i] = a.sums[i];
-        missing[i] = a.missing[i];
-        i += 1;
+    for class in 0..count_used(t) {
+        sums[class] = a.sums[class];
+        missing[class] = a.missing[class];
     }
     Aggregate { sums, missing }
-}
-
-fn wide(b: u8) -> u64
-    ensures { (result ≡ b) × (result < 256) }
-{
-    b as u64
 }
 
 // The missing numbers in one word, a byte each, class 0 lowest, from which they are read again.
@@ -302,44 +264,22 @@ pub fn missing_word(a: Aggregate) -> u64
     ensures word { result ≡ missing_word a }
     ensures again { bytes 8 result ≡ a.missing }
 {
-    let mut word: u64 = 0;
-    let mut i: usize = MOST_CLASSES;
-    while 0 < i {
-        i -= 1;
-        word = wide(a.missing[i]) + 256 * word;
-    }
-    word
-}
-
-// What the sums of the classes in use and a word of missing numbers hold.
-pub fn from_words(t: Config, words: [u64; 8], word: u64) -> Aggregate
-    ensures { result ≡ from_words t (λ (i : ℕ). get_or words i 0) word }
-{
-    let c = count_used(t);
-    let mut sums = [0u64; 8];
-    let mut missing = [0u8; 8];
-    let mut rest = word;
-    let mut i: usize = 0;
-    while i < c {
-        sums[i] = words[i];
-        missing[i] = (rest % 256) as u8;
-        rest = rest / 256;
-        i += 1;
-    }
-    Aggregate { sums, missing }
+    u64::from_le_bytes(a.missing)
 }
 
 // What eight sums and a word of missing numbers hold, in every place.
 pub fn of_words(sums: [u64; 8], word: u64) -> Aggregate
     ensures { result ≡ of_words sums word }
 {
-    let mut missing = [0u8; 8];
-    let mut rest = word;
-    let mut i: usize = 0;
-    while i < MOST_CLASSES {
-        missing[i] = (rest % 256) as u8;
-        rest = rest / 256;
-        i += 1;
+    Aggregate {
+        sums,
+        missing: word.to_le_bytes(),
     }
-    Aggregate { sums, missing }
+}
+
+// What the sums of the classes in use and a word of missing numbers hold.
+pub fn from_words(t: Config, words: [u64; 8], word: u64) -> Aggregate
+    ensures { result ≡ from_words t (λ (i : ℕ). get_or words i 0) word }
+{
+    clip(t, of_words(words, word))
 }

@@ -1,7 +1,7 @@
--- The exported functions on a lent record, as the laws of lent records ask for them: an event of a station by the lent function that it is
--- passed on to; a reading by the map, the answer, and the struct of both that the function by value returns. Assumes nothing.
-use mathlib.Core.Path.{◌≡◌, ap, ◌∙◌}
-use mathlib.Core.List.{List, [], ◌∷◌}
+-- The exported function that reads into a lent map, as the law of a lent record asks for it: the map, the answer, and the struct of both that the
+-- function by value returns. Assumes nothing.
+use mathlib.Core.Path.{◌≡◌}
+use mathlib.Core.List.{List}
 use Prim.Native.Nat.{ℕ}
 use mir.Syntax.{w64}
 use contract.Lifetimes.{Lfts}
@@ -9,55 +9,17 @@ use denote.RattleType.{Denots}
 use denote.Signature.{types_at}
 use denote.Struct.Declared.{row}
 use denote.Struct.Laws as LL
-use Rattle.lent.proofs.Data.{Record, Answer, number-answer, struct-answer, Argument}
+use Rattle.lent.proofs.Data.{Record, Answer, number-answer, Argument}
 use Rattle.lent.proofs.Arguments.{values}
 use Rattle.lent.proofs.Law.{Lending}
-use Rattle.lent.proofs.Passing.{Passing}
-use Rattle.station.specs.declared.Process.{Process}
-use Rattle.station.specs.Process.{EventOutcome, event_outcome_of, number_and_values}
-use Rattle.station.proofs.Lent.{process, reply}
 use Rattle.linemap.specs.contracts.Map as Map
 use Rattle.linemap.proofs.Map.TheLaws as Map'
-use Rattle.capi.specs.Answers.{packed, Called, called}
-use Rattle.capi.specs.declared.process.Given.{Given}
-use Rattle.capi.specs.Process.{event_call, giving_call}
-use Rattle.capi.specs.Internal.Values.{reply_given}
-use Rattle.capi.specs.contracts.process.Given as Gives
-use Rattle.capi.proofs.process.Given.TheLaws as Gives'
+use Rattle.capi.specs.Answers.{Called, called}
 use Rattle.capi.specs.contracts.map.Answered as OnMap
 use Rattle.capi.proofs.map.Answered.TheLaws as OnMap'
 
 abbrev number : Answer
 number = number-answer w64
-
-abbrev giving : Answer
-giving = struct-answer (record { type = Gives.the_type; laws = Gives'.the_laws; plain = Gives'.the_plain })
-
--- a station's event with these arguments, passed on to the station's own lent function, and its reply put into a number
-abbrev pub on_process : (Ns : List (Argument 0)) → ((κs : Lfts 0) → Denots (types_at (values Ns) κs) → Process → EventOutcome) → Passing 0
-on_process Ns rule = record {
-  lent = process;
-  arguments = Ns;
-  reply = reply;
-  answer = number;
-  replies = λ κs a e p r q. event_outcome_of r q ≡ rule κs a p;
-  answers = λ r n. n ≡ packed ((number_and_values r.answer).0 ∷ (number_and_values r.answer).1);
-  promise = λ κs a e p n q. called n q ≡ event_call (rule κs a p);
-  together = λ κs a e p r q n replied answered. ap (λ (x : ℕ). called x q) answered ∙ ap event_call replied;
-}
-
--- one that gives, its reply put into a number and what is given
-abbrev pub on_giving : (Process → EventOutcome) → Passing 0
-on_giving rule = record {
-  lent = process;
-  arguments = [];
-  reply = reply;
-  answer = giving;
-  replies = λ κs a e p r q. event_outcome_of r q ≡ rule p;
-  answers = λ r g. g ≡ reply_given r;
-  promise = λ κs a e p g q. called g q ≡ giving_call (rule p);
-  together = λ κs a e p r q g replied answered. ap (λ (x : Given). called x q) answered ∙ ap giving_call replied;
-}
 
 abbrev map : Record
 map = record { type = Map.the_type; laws = Map'.the_laws; plain = Map'.the_plain }

@@ -7,7 +7,7 @@ ghost use Rattle.capi.specs.Process.{event_call, giving_call};
 ghost use Rattle.capi.specs.Internal.Values.{reply_given};
 
 use aggregate::Aggregate;
-use station::{Answer, Process, Reply};
+use station::{Process, Reply};
 
 // What an answer or a report answers, as one number, and what it gives: nothing where it is refused.
 #[repr(C)]
@@ -17,15 +17,14 @@ pub struct Given {
     pub held: Aggregate,
 }
 
-// The number of a reply's answer, and the parent where one is given.
+// The number of a reply, and the parent where a sum is given.
 fn number(reply: Reply) -> u64
-    ensures { result ≡ packed ((Rules.number_and_values reply.answer).0 ∷ (Rules.number_and_values reply.answer).1) }
+    ensures { result ≡ packed ((Rules.number_and_values reply).0 ∷ (Rules.number_and_values reply).1) }
 {
-    let answer = reply.answer;
-    match answer {
-        Answer::Done => 0,
-        Answer::Gives(parent) => 256 * (parent as u64),
-        Answer::Refused(refusal) => refusal::number(refusal) as u64,
+    match reply {
+        Ok(None) => 0,
+        Ok(Some(gives)) => 256 * (gives.parent as u64),
+        Err(why) => refusal::number(why) as u64,
     }
 }
 
@@ -33,10 +32,13 @@ fn number(reply: Reply) -> u64
 fn give(reply: Reply) -> Given
     ensures { result ≡ reply_given reply }
 {
-    let held = reply.given;
+    let held = match reply {
+        Ok(Some(gives)) => gives.held,
+        _ => aggregate::empty(),
+    };
     Given {
         answer: number(reply),
-        held: held,
+        held,
     }
 }
 
@@ -44,38 +46,33 @@ fn give(reply: Reply) -> Given
 pub extern "C" fn tally_process_take_start(p: &mut Process, from: u8) -> u64
     ensures { called result p.new ≡ event_call (Rules.take_start from p.old) }
 {
-    let reply = station::take_start_in_place(p, from);
-    number(reply)
+    number(station::take_start_in_place(p, from))
 }
 
 #[unsafe(no_mangle)]
 pub extern "C" fn tally_process_send_start(p: &mut Process, to: u8) -> u64
     ensures { called result p.new ≡ event_call (Rules.send_start to p.old) }
 {
-    let reply = station::send_start_in_place(p, to);
-    number(reply)
+    number(station::send_start_in_place(p, to))
 }
 
 #[unsafe(no_mangle)]
 pub extern "C" fn tally_process_take_answer(p: &mut Process, v: Aggregate) -> u64
     ensures { called result p.new ≡ event_call (Rules.take_answer v p.old) }
 {
-    let reply = station::take_answer_in_place(p, v);
-    number(reply)
+    number(station::take_answer_in_place(p, v))
 }
 
 #[unsafe(no_mangle)]
 pub extern "C" fn tally_process_send_answer(p: &mut Process) -> Given
     ensures { called result p.new ≡ giving_call (Rules.send_answer p.old) }
 {
-    let reply = station::send_answer_in_place(p);
-    give(reply)
+    give(station::send_answer_in_place(p))
 }
 
 #[unsafe(no_mangle)]
 pub extern "C" fn tally_process_report(p: &mut Process) -> Given
     ensures { called result p.new ≡ giving_call (Rules.report p.old) }
 {
-    let reply = station::report_in_place(p);
-    give(reply)
+    give(station::report_in_place(p))
 }

@@ -1,4 +1,3 @@
-pub mod Lent
 pub mod Formed
 pub mod Outcomes
 pub mod Laws

@@ -1,6 +1,6 @@
 -- The five events of a process (document 01, "One station"), with the refusals 11, 12 and 13 (Causes and numbers), which leave it.
 -- For station 0 read the desk (document 02, request 5).
-use Rattle.std.specs.Prelude.{ℕ, Bool, true, ◌||◌, List, [], ◌∷◌, eqb, ltb}
+use Rattle.std.specs.Prelude.{ℕ, Bool, true, ◌||◌, List, [], ◌∷◌, eqb, ltb, Option, Some, None, Result, Ok, Err}
 use Rattle.finite.specs.Tests.{unless}
 use Rattle.aggregate.specs.declared.Aggregate.{Aggregate}
 use Rattle.aggregate.specs.Aggregate.{bounded, clipped, nothing}
@@ -9,9 +9,7 @@ use Rattle.refusal.specs.declared.Refusal.TheVariants.{OutOfForm, OutOfRange, No
 use Rattle.refusal.specs.Refusal.{number_of}
 use Rattle.station.specs.declared.Station.{Station}
 use Rattle.station.specs.declared.Process.{Process}
-use Rattle.station.specs.declared.Answer.{Answer}
-use Rattle.station.specs.declared.Answer.TheVariants.{Done, Gives, Refused}
-use Rattle.station.specs.declared.Reply.{Reply}
+use Rattle.station.specs.declared.Gives.{Gives}
 use Rattle.station.specs.Events.{asleep, active, may_send_start, start_sent, answer_taken, started_by, may_report, may_answer, ended}
 use Rattle.station.specs.Form.{process_config, well_formed_process}
 
@@ -22,15 +20,21 @@ pub record EventOutcome : Type 0 where
   pub given : Aggregate
   pub process : Process
 
--- the number and the values of each answer
-abbrev pub number_and_values : Answer → ℕ × List ℕ
-number_and_values Done = (0, [])
-number_and_values (Gives parent) = (0, parent ∷ [])
-number_and_values (Refused r) = (number_of r, [])
+-- the number and the values of each reply
+abbrev pub number_and_values : Result (Option Gives) Refusal → ℕ × List ℕ
+number_and_values (Ok None) = (0, [])
+number_and_values (Ok (Some g)) = (0, g.parent ∷ [])
+number_and_values (Err r) = (number_of r, [])
+
+-- what is given with it: nothing but at the end of the station's part
+abbrev pub given_of : Result (Option Gives) Refusal → Aggregate
+given_of (Ok None) = nothing
+given_of (Ok (Some g)) = g.held
+given_of (Err r) = nothing
 
 -- what a reply and the process left come to
-abbrev pub event_outcome_of : Reply → Process → EventOutcome
-event_outcome_of r p = record { number = (number_and_values r.answer).0; values = (number_and_values r.answer).1; given = r.given; process = p }
+abbrev pub event_outcome_of : Result (Option Gives) Refusal → Process → EventOutcome
+event_outcome_of r p = record { number = (number_and_values r).0; values = (number_and_values r).1; given = given_of r; process = p }
 
 -- a refusal returns its number and leaves the process as it was
 abbrev pub event_refused : Refusal → Process → EventOutcome

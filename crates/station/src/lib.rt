@@ -1,7 +1,7 @@
 // One station (document 01, "One station"; document 001, Definition 3.1): what a net holds of it, and the station by itself.
 #![tactic(auto)]
 
-ghost use Rattle.std.specs.Prelude.{◌≡◌, true, cond, ◌-◌};
+ghost use Rattle.std.specs.Prelude.{◌≡◌, true, cond, ◌-◌, IfOk, IfErr};
 ghost use Rattle.aggregate.specs.Aggregate.{joinable};
 ghost use Rattle.station.specs.Events;
 ghost use Rattle.station.specs.Form.{well_formed, process_config, well_formed_process};
@@ -10,7 +10,7 @@ ghost use Rattle.station.specs.Process as Rules;
 use aggregate::{Aggregate, Config};
 use refusal::Refusal;
 
-// The states.
+// The states: bytes, as the C interface has them, since any byte may be lent and one that is no state is out of form.
 pub const ASLEEP: u8 = 0;
 
 pub const ACTIVE: u8 = 1;
@@ -42,20 +42,15 @@ pub struct Process {
     pub station: Station,
 }
 
+// What a station gives at the end of its part: its sum, to its parent.
 #[derive(Clone, Copy)]
-pub enum Answer {
-    Done,
-    // A sum, to the parent.
-    Gives(u8),
-    Refused(Refusal),
+pub struct Gives {
+    pub parent: u8,
+    pub held: Aggregate,
 }
 
-// An answer, and what is given with it: nothing unless the answer is `Gives`.
-#[derive(Clone, Copy)]
-pub struct Reply {
-    pub answer: Answer,
-    pub given: Aggregate,
-}
+// What an event answers: what is given, where something is, or why it is refused.
+pub type Reply = Result<Option<Gives>, Refusal>;
 
 // A reply, and the process after the event.
 #[derive(Clone, Copy)]
@@ -64,28 +59,20 @@ pub struct Event {
     pub process: Process,
 }
 
-// One less; zero from zero.
-fn less_one(n: u8) -> u8
-    ensures { result ≡ n - 1 }
-{
-    if n == 0 { 0 } else { n - 1 }
-}
-
 // The lines of Definition 3.1, and the form.
 impl Station {
     // Line 1: a start from j wakes it.
     pub fn woken(self, j: u8) -> Station
         ensures { result ≡ Events.woken j self }
     {
-        let held = self.held;
         let set = self.unstarted;
         let rest = bitset::without(set, j);
         let size = bitset::size(set);
         Station {
-            held: held,
+            held: self.held,
             unstarted: rest,
             parent: j,
-            waits: less_one(size),
+            waits: size.saturating_sub(1),
             state: ACTIVE,
         }
     }
@@ -106,30 +93,23 @@ impl Station {
         next
     }
 
-    // Line 3: what is held was joined with an answer.
+    // Line 3: what is held was joined with an answer, a wait less.
     fn holding(self, held: Aggregate) -> Station
         ensures { result ≡ record { held = held; unstarted = self.unstarted; parent = self.parent; waits = self.waits - 1; state = self.state } }
     {
-        Station {
-            held: held,
-            unstarted: self.unstarted,
-            parent: self.parent,
-            waits: less_one(self.waits),
-            state: self.state,
-        }
+        let mut next = self.start_taken();
+        next.held = held;
+        next
     }
 
     // Line 3: an answer v was taken; the station as it was where what it holds or v is not bounded.
     pub fn answer_taken(self, t: Config, v: Aggregate) -> Station
         ensures { result ≡ cond (joinable t self.held v) (Events.answer_taken t v self) self }
     {
-        let held = self.held;
-        let joined = aggregate::join(t, held, v);
-        if !joined.bounded {
-            return self;
+        match aggregate::join(t, self.held, v) {
+            Some(both) => self.holding(both),
+            None => self,
         }
-        let both = joined.held;
-        self.holding(both)
     }
 
     // Line 4: a start was taken when active.
@@ -137,7 +117,7 @@ impl Station {
         ensures { result ≡ Events.start_taken self }
     {
         let mut next = self;
-        next.waits = less_one(self.waits);
+        next.waits = self.waits.saturating_sub(1);
         next
     }
 
@@ -238,13 +218,9 @@ impl Process {
     fn after(self, station: Station) -> Process
         ensures { result ≡ Rules.after self station }
     {
-        Process {
-            own: self.own,
-            classes: self.classes,
-            desk: self.desk,
-            way: self.way,
-            station: station,
-        }
+        let mut next = self;
+        next.station = station;
+        next
     }
 
     // Nothing is given.
@@ -252,10 +228,7 @@ impl Process {
         ensures { Rules.event_outcome_of result.reply result.process ≡ Rules.done (Rules.after self station) }
     {
         Event {
-            reply: Reply {
-                answer: Answer::Done,
-                given: aggregate::empty(),
-            },
+            reply: Ok(None),
             process: self.after(station),
         }
     }
@@ -265,55 +238,51 @@ impl Process {
         ensures { Rules.event_outcome_of result.reply result.process ≡ Rules.gives self }
     {
         let s = self.station;
-        let held = s.held;
+        let gives = Gives {
+            parent: s.parent,
+            held: aggregate::clip(self.config(), s.held),
+        };
         Event {
-            reply: Reply {
-                answer: Answer::Gives(s.parent),
-                given: aggregate::clip(self.config(), held),
-            },
+            reply: Ok(Some(gives)),
             process: self.after(s.ended()),
         }
     }
 
-    fn refused(self, r: Refusal) -> Event
-        ensures { Rules.event_outcome_of result.reply result.process ≡ Rules.event_refused r self }
+    fn refused(self, why: Refusal) -> Event
+        ensures { Rules.event_outcome_of result.reply result.process ≡ Rules.event_refused why self }
     {
         Event {
-            reply: Reply {
-                answer: Answer::Refused(r),
-                given: aggregate::empty(),
-            },
+            reply: Err(why),
             process: self,
         }
     }
 
-    // The refusals in their order, else the event.
-    fn decide(self, form: bool, range: bool, allowed: bool, event: Event) -> Event
-        ensures { Rules.event_outcome_of result.reply result.process ≡ Rules.decide form range allowed self (Rules.event_outcome_of event.reply event.process) }
+    // The refusals in their order, which come before an event is made.
+    fn decide(self, range: bool, allowed: bool) -> Result<(), Refusal>
+        ensures accepted { IfOk result (λ _. (o : Rules.EventOutcome) → Rules.decide (well_formed_process self) range allowed self o ≡ o) }
+        ensures refused { IfErr result (λ why. (o : Rules.EventOutcome) → Rules.decide (well_formed_process self) range allowed self o ≡ Rules.event_refused why self) }
     {
-        if !form {
-            return self.refused(Refusal::OutOfForm);
+        if !self.is_well_formed() {
+            return Err(Refusal::OutOfForm);
         }
         if !range {
-            return self.refused(Refusal::OutOfRange);
+            return Err(Refusal::OutOfRange);
         }
         if !allowed {
-            return self.refused(Refusal::NotAllowed);
+            return Err(Refusal::NotAllowed);
         }
-        event
+        Ok(())
     }
 
-    // The end of its part, where it is allowed. Refusals come before the end is made, which keeps the code small.
+    // The end of its part, where it is allowed: one function for both ends, which keeps the code small.
+    #[inline(never)]
     fn finish(self, allowed: bool) -> Event
         ensures { Rules.event_outcome_of result.reply result.process ≡ Rules.decide (well_formed_process self) true allowed self (Rules.gives self) }
     {
-        if !self.is_well_formed() {
-            return self.refused(Refusal::OutOfForm);
+        match self.decide(true, allowed) {
+            Ok(()) => self.gives(),
+            Err(why) => self.refused(why),
         }
-        if !allowed {
-            return self.refused(Refusal::NotAllowed);
-        }
-        self.gives()
     }
 
     // Take a start from a neighbour: it wakes a sleeping station and leaves an active one a wait less.
@@ -322,9 +291,11 @@ impl Process {
     {
         let t = self.config();
         let s = self.station;
-        let form = self.is_well_formed();
         let allowed = (s.state == ASLEEP) | (s.state == ACTIVE);
-        self.decide(form, from < t.k, allowed, self.done(s.started_by(from)))
+        match self.decide(from < t.k, allowed) {
+            Ok(()) => self.done(s.started_by(from)),
+            Err(why) => self.refused(why),
+        }
     }
 
     // Send a start to a neighbour, which leaves the set.
@@ -333,9 +304,10 @@ impl Process {
     {
         let t = self.config();
         let s = self.station;
-        let form = self.is_well_formed();
-        let allowed = s.may_send_start(to);
-        self.decide(form, to < t.k, allowed, self.done(s.start_sent(to)))
+        match self.decide(to < t.k, s.may_send_start(to)) {
+            Ok(()) => self.done(s.start_sent(to)),
+            Err(why) => self.refused(why),
+        }
     }
 
     // Take an answer: v is joined to the sum. In form what is held is bounded, so the join's own test is that of the range.
@@ -345,17 +317,14 @@ impl Process {
         if !self.is_well_formed() {
             return self.refused(Refusal::OutOfForm);
         }
-        let t = self.config();
         let s = self.station;
-        let held = s.held;
-        let joined = aggregate::join(t, held, v);
-        let both = joined.held;
-        self.decide(
-            true,
-            joined.bounded,
-            s.state == ACTIVE,
-            self.done(s.holding(both)),
-        )
+        let Some(both) = aggregate::join(self.config(), s.held, v) else {
+            return self.refused(Refusal::OutOfRange);
+        };
+        if s.state != ACTIVE {
+            return self.refused(Refusal::NotAllowed);
+        }
+        self.done(s.holding(both))
     }
 
     // Send the sum to the parent, which the root never does.
@@ -378,53 +347,46 @@ impl Process {
 }
 
 // The events on a process that a controller lends: the event by value, and its process stored back.
+fn in_place<F: FnOnce(Process) -> Event>(p: &mut Process, event: F) -> Reply
+    requires { F.pre event p.old }
+    ensures { F.post event p.old (record { reply = result; process = p.new }) }
+{
+    let after = event(*p);
+    *p = after.process;
+    after.reply
+}
 
 // Take a start from a neighbour.
 pub fn take_start_in_place(p: &mut Process, from: u8) -> Reply
     ensures { Rules.event_outcome_of result p.new ≡ Rules.take_start from p.old }
 {
-    let before = *p;
-    let event = before.take_start(from);
-    *p = event.process;
-    event.reply
+    in_place(p, |q| q.take_start(from))
 }
 
 // Send a start to a neighbour.
 pub fn send_start_in_place(p: &mut Process, to: u8) -> Reply
     ensures { Rules.event_outcome_of result p.new ≡ Rules.send_start to p.old }
 {
-    let before = *p;
-    let event = before.send_start(to);
-    *p = event.process;
-    event.reply
+    in_place(p, |q| q.send_start(to))
 }
 
 // Take an answer.
 pub fn take_answer_in_place(p: &mut Process, v: Aggregate) -> Reply
     ensures { Rules.event_outcome_of result p.new ≡ Rules.take_answer v p.old }
 {
-    let before = *p;
-    let event = before.take_answer(v);
-    *p = event.process;
-    event.reply
+    in_place(p, |q| q.take_answer(v))
 }
 
 // Send the sum to the parent.
 pub fn send_answer_in_place(p: &mut Process) -> Reply
     ensures { Rules.event_outcome_of result p.new ≡ Rules.send_answer p.old }
 {
-    let before = *p;
-    let event = before.send_answer();
-    *p = event.process;
-    event.reply
+    in_place(p, |q| q.send_answer())
 }
 
 // Report the sum.
 pub fn report_in_place(p: &mut Process) -> Reply
     ensures { Rules.event_outcome_of result p.new ≡ Rules.report p.old }
 {
-    let before = *p;
-    let event = before.report();
-    *p = event.process;
-    event.reply
+    in_place(p, |q| q.report())
 }

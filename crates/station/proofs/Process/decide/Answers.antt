@@ -1,22 +1,22 @@
 -- `station::Process::decide` meets its contract: each return is one clause of the definition, by the tests before it. Assumes nothing.
+use mathlib.Core.Path.{refl, sym, ◌∙◌}
 use Rattle.station.specs.Process.{decide}
 use Rattle.station.proofs.Process.decide.Goals as goal
 
-pub returns-then-not-form : goal.returns-then-not-form
+pub returns-then-not-is_well_formed-clause-refused : goal.returns-then-not-is_well_formed-clause-refused
 unfolding decide
-returns-then-not-form c = rw c.if-not-form.true c.refused.ensures
+returns-then-not-is_well_formed-clause-refused c = λ o. rw (sym c.is_well_formed.ensures ∙ c.if-not-is_well_formed.true) refl
 
-pub returns-then-not-range : goal.returns-then-not-range
+pub returns-then-not-range-clause-refused : goal.returns-then-not-range-clause-refused
 unfolding decide
-returns-then-not-range c =
-    rw (c.if-not-form.false, c.if-not-range.true) c.refused-then-not-range.ensures
+returns-then-not-range-clause-refused c = λ o. rw (sym c.is_well_formed.ensures ∙ c.if-not-is_well_formed.false, c.if-not-range.true) refl
 
-pub returns-then-not-allowed : goal.returns-then-not-allowed
+pub returns-then-not-allowed-clause-refused : goal.returns-then-not-allowed-clause-refused
 unfolding decide
-returns-then-not-allowed c =
-    rw (c.if-not-form.false, c.if-not-range.false, c.if-not-allowed.true) c.refused-then-not-allowed.ensures
+returns-then-not-allowed-clause-refused c =
+    λ o. rw (sym c.is_well_formed.ensures ∙ c.if-not-is_well_formed.false, c.if-not-range.false, c.if-not-allowed.true) refl
 
-pub returns : goal.returns
+pub returns-clause-accepted : goal.returns-clause-accepted
 unfolding decide
-returns c =
-    rw (c.if-not-form.false, c.if-not-range.false, c.if-not-allowed.false)
+returns-clause-accepted c =
+    λ o. rw (sym c.is_well_formed.ensures ∙ c.if-not-is_well_formed.false, c.if-not-range.false, c.if-not-allowed.false) refl

@@ -1,45 +1,57 @@
--- `station::Process::take_answer` meets its contract: a process out of form is refused first, and `decide` of the code is then that of the
--- rules, at what the callees ensure. Assumes nothing.
-use mathlib.Core.Path.{◌≡◌, sym, ◌∙◌}
-use mathlib.Core.Bool.{true, cond}
-use Prim.Native.Nat.{◌-◌}
-use lib.Dec.{eqb}
+-- `station::Process::take_answer` meets its contract: each return is one clause of `decide`, by the tests before it; in form what is held is
+-- bounded, so the join's own test is that of the range. Assumes nothing.
+use mathlib.Core.Path.{◌≡◌, refl, sym, ◌∙◌}
+use mathlib.Core.Bool.{Bool, true, false, cond}
+use borrow.Author.Tests.{eq-eqb, ne_eqb}
+use Rattle.std.specs.Prelude.{Some, None}
+use Rattle.finite.proofs.Cases.{by_bool}
 use Rattle.aggregate.specs.declared.Aggregate.{Aggregate}
-use Rattle.aggregate.specs.Aggregate.{joined, joinable}
+use Rattle.aggregate.specs.Aggregate.{bounded, joined, joinable}
 use Rattle.station.specs.declared.Process.{Process}
 use Rattle.station.specs.Events.{active}
 use Rattle.station.specs.Form.{process_config, well_formed_process}
-use Rattle.station.specs.Process.{done, after, decide, take_answer}
+use Rattle.station.specs.Process.{decide, take_answer}
 use Rattle.station.proofs.Formed.{facts}
-use Rattle.station.proofs.Outcomes.{decide_agree}
 use Rattle.station.proofs.Laws.{station_formed}
 use Rattle.station.proofs.Process.take_answer.Goals as goal
 
--- in form what is held is bounded: the join's own test is that of the range, and where it is passed the join is the rules'
+-- the join's own test
 tested : (v : Aggregate) (p : Process) → well_formed_process p ≡ true
-    → decide true (joinable (process_config p) p.station.held v) (eqb p.station.state active) p
-    (done
-    (after p
-    (record {
-      held = cond (joinable (process_config p) p.station.held v) (joined (process_config p) p.station.held v) p.station.held;
-      unstarted = p.station.unstarted;
-      parent = p.station.parent;
-      waits = p.station.waits - 1;
-      state = p.station.state;
-    })))
-    ≡ take_answer v p
-unfolding take_answer
-tested v p formed =
-    rw (formed, (facts (process_config p) p.own p.station (station_formed p formed)).held-bounded)
-    (decide_agree _ _ _ p _ _ (λ f r. rw r))
+    → joinable (process_config p) p.station.held v ≡ bounded (process_config p) v
+tested v p formed = rw (facts (process_config p) p.own p.station (station_formed p formed)).held-bounded
+
+-- what a join gave, where it gave something
+given : (b : Bool) (x y : Aggregate) → cond b (Some x) None ≡ Some y → (b ≡ true) × (y ≡ x)
+given true x y e = (refl, cc)
+given false x y e = cc
 
 pub returns-then-not-is_well_formed : goal.returns-then-not-is_well_formed
 unfolding take_answer decide
 returns-then-not-is_well_formed c = rw (sym c.is_well_formed.ensures ∙ c.if-not-is_well_formed.true) c.refused.ensures
 
+pub returns-in_default : goal.returns-in_default
+unfolding take_answer decide
+returns-in_default c =
+    let p = c.args.self in
+    let t = process_config p in
+    let formed = sym c.is_well_formed.ensures ∙ c.if-not-is_well_formed.false in
+    let both = joined t p.station.held c.args.v in
+    let test : joinable t p.station.held c.args.v ≡ false =
+    by_bool (joinable t p.station.held c.args.v) (λ e. absurd (c.in_default.not-Some both (rw c.config.ensures at c.join.ensures ∙ rw e))) (λ e. e) in
+    rw (formed, sym (tested c.args.v p formed) ∙ test) c.refused-in_default.ensures
+
+pub returns-then-s-ne-ACTIVE : goal.returns-then-s-ne-ACTIVE
+unfolding take_answer decide
+returns-then-s-ne-ACTIVE c =
+    let p = c.args.self in
+    let formed = sym c.is_well_formed.ensures ∙ c.if-not-is_well_formed.false in
+    let both = given _ _ _ (sym (rw c.config.ensures at c.join.ensures) ∙ c.in-Some.is) in
+    rw (formed, sym (tested c.args.v p formed) ∙ both.0, ne_eqb _ active c.if-s-ne-ACTIVE.true) c.refused-then-s-ne-ACTIVE.ensures
+
 pub returns : goal.returns
+unfolding take_answer decide
 returns c =
-    let join = c.join-joined in
-    let args = c.args in
-    (rw (c.done.ensures, c.holding.ensures, join.ensures.bounded, join.ensures.held, c.config-t.ensures) at c.decide.ensures)
-    ∙ tested args.v args.self (sym c.is_well_formed.ensures ∙ c.if-not-is_well_formed.false)
+    let p = c.args.self in
+    let formed = sym c.is_well_formed.ensures ∙ c.if-not-is_well_formed.false in
+    let both = given _ _ _ (sym (rw c.config.ensures at c.join.ensures) ∙ c.in-Some.is) in
+    rw (formed, sym (tested c.args.v p formed) ∙ both.0, eq-eqb _ active c.if-s-ne-ACTIVE.false) (rw (c.holding.ensures, both.1) at c.done.ensures)

@@ -1,14 +1,15 @@
 -- `station::Process::take_start` meets its contract: `decide` of the code is that of the rules, at what the callees ensure. Assumes nothing.
-use Rattle.station.specs.Process.{take_start}
+use mathlib.Core.Path.{sym, ◌∙◌}
+use Rattle.station.specs.Events.{started_by}
+use Rattle.station.specs.Process.{done, after, take_start}
 use Rattle.station.proofs.Process.take_start.Goals as goal
 
-pub returns : goal.returns
+pub returns-in-Ok : goal.returns-in-Ok
 unfolding take_start
-returns c =
-    rw (
-      c.done.ensures,
-      c.started_by.ensures,
-      c.is_well_formed-form.ensures,
-      c.config-t.ensures,
-    )
-    at c.decide.ensures
+returns-in-Ok c = rw (c.started_by.ensures, c.config-t.ensures) at (c.done.ensures ∙ sym (c.in-Ok.ensures.accepted _))
+
+pub returns-in-Err : goal.returns-in-Err
+unfolding take_start
+returns-in-Err c =
+    let p = c.args.self in
+    rw c.config-t.ensures at (c.refused.ensures ∙ sym (c.in-Err.ensures.refused (done (after p (started_by c.args.from p.station)))))

@@ -1,6 +1,0 @@
--- `aggregate::root` meets its contract: the code is the definition. Assumes nothing.
-use mathlib.Core.Path.{refl}
-use Rattle.aggregate.proofs.root.Goals as goal
-
-pub returns : goal.returns
-returns c = refl
