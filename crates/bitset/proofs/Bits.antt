@@ -69,11 +69,6 @@ bit_kept (suc i) (suc j) s ne =
     let half : without (suc j) s / 2 ≡ without j (s / 2) = omega (arith, without-suc j s) in
     bit-suc i (without (suc j) s) ∙ ap (bit i) half ∙ bit_kept i j (s / 2) (λ e. ne (ap suc e)) ∙ sym (bit-suc i s)
 
-pub count_le : (n s : ℕ) → members_below n s ≤ n
-unfolding members_below
-count_le zero s = omega arith
-count_le (suc n) s = omega (arith, count_le n s)
-
 -- the members below n + 1: station 0, and those of the half
 count_half : (n s : ℕ) → members_below (suc n) s ≡ s % 2 + members_below n (s / 2)
 unfolding members_below
