@@ -34,11 +34,7 @@ fn reading_at(t: Config, counts: &[u32; 512], i: u8) -> Reading
     let c = aggregate::count_used(t);
     let at = 8 * (i as usize);
     let mut own = [0u32; 8];
-    let mut j: usize = 0;
-    while j < c {
-        own[j] = counts[at + j];
-        j += 1;
-    }
+    own[..c].copy_from_slice(&counts[at..at + c]);
     Reading { counts: own }
 }
 
@@ -76,13 +72,6 @@ pub fn is_in_range(kinds: u8, reports: u8, k: u8, root: u8, step: Step) -> bool
         & (!(step.kind == reports) | (step.sender == root) & (step.receiver == root))
 }
 
-// A byte is below 256.
-fn wide(b: u8) -> u64
-    ensures { (result ≡ b) × (result < 256) }
-{
-    b as u64
-}
-
 // How many words there are: a reference to an array does not tell.
 pub fn count_words(words: &[u64]) -> usize
     ensures { result ≡ length words.now }
@@ -105,13 +94,12 @@ pub fn config_in(words: &[u64; 705]) -> Config
 
 // A first word with other fields.
 fn config_word(w: u64, t: Config) -> u64
-    ensures word { result ≡ Words.config_word w t }
-    ensures fields { (t.k < 256) × (t.classes < 256) × (t.desk < 256) × (t.way < 256) }
+    ensures { result ≡ Words.config_word w t }
 {
-    let k = wide(t.k);
-    let classes = wide(t.classes);
-    let desk = wide(t.desk);
-    let way = wide(t.way);
+    let k = u64::from(t.k);
+    let classes = u64::from(t.classes);
+    let desk = u64::from(t.desk);
+    let way = u64::from(t.way);
     (((w / 4294967296 * 256 + way) * 256 + desk) * 256 + classes) * 256 + k
 }
 
@@ -122,29 +110,15 @@ pub fn put_config(words: &mut [u64; 705], t: Config)
     ensures stations { Words.stations_in words.new ≡ Words.stations_in words.old }
     ensures spare { Words.spare_in words.new ≡ Words.spare_in words.old }
 {
-    let long = count_words(words);
-    let w = config_word(words[0], t);
-    words[0] = w;
-}
-
-fn load_sums(words: &[u64], at: usize) -> [u64; 8]
-    requires { at + 8 ≤ length words.now }
-    ensures { result ≡ Words.sums_in words.now at }
-{
-    let mut sums = [0u64; 8];
-    let mut j: usize = 0;
-    while j < 8 {
-        sums[j] = words[at + j];
-        j += 1;
-    }
-    sums
+    words[0] = config_word(words[0], t);
 }
 
 fn load_aggregate(words: &[u64], at: usize) -> Aggregate
     requires { at + 9 ≤ length words.now }
     ensures { result ≡ Words.aggregate_from words.now at }
 {
-    let sums = load_sums(words, at);
+    let mut sums = [0u64; 8];
+    sums.copy_from_slice(&words[at..at + 8]);
     aggregate::of_words(sums, words[at + 8])
 }
 
@@ -175,36 +149,22 @@ pub fn load(words: &[u64; 705], i: u8) -> Station
     }
 }
 
-fn store_sums(words: &mut [u64], at: usize, v: Aggregate)
-    requires { at + 8 ≤ length words.old }
-    ensures words { words.new ≡ Words.with_sums words.old at v 8 }
-    ensures long { length v.sums ≡ 8 }
-{
-    let mut j: usize = 0;
-    while j < 8 {
-        words[at + j] = v.sums[j];
-        j += 1;
-    }
-}
-
 fn store_aggregate(words: &mut [u64], at: usize, v: Aggregate)
     requires { at + 9 ≤ length words.old }
     ensures words { words.new ≡ Words.with_aggregate words.old at v }
     ensures fits { FitsHeld v }
 {
-    let missing = aggregate::missing_word(v);
-    store_sums(words, at, v);
-    words[at + 8] = missing;
+    words[at..at + 8].copy_from_slice(&v.sums);
+    words[at + 8] = aggregate::missing_word(v);
 }
 
 // A station's last word with other fields.
 fn fields_word(w: u64, s: Station) -> u64
-    ensures word { result ≡ Words.fields_word w s }
-    ensures fields { (s.parent < 256) × (s.waits < 256) × (s.state < 256) }
+    ensures { result ≡ Words.fields_word w s }
 {
-    let parent = wide(s.parent);
-    let waits = wide(s.waits);
-    let state = wide(s.state);
+    let parent = u64::from(s.parent);
+    let waits = u64::from(s.waits);
+    let state = u64::from(s.state);
     ((w / 16777216 * 256 + state) * 256 + waits) * 256 + parent
 }
 
@@ -229,7 +189,6 @@ pub fn store(words: &mut [u64; 705], i: u8, s: Station)
     ensures spare { Words.spare_in words.new ≡ Words.spare_in words.old }
 {
     if i < 64 {
-        let long = count_words(words);
         store_from(words, 1 + 11 * (i as usize), s);
     }
 }
@@ -251,7 +210,6 @@ pub fn store_kept(words: &mut [u64; 576], i: u8, v: Aggregate)
     ensures kept { Kept.kept_in words.new ≡ set (Kept.kept_in words.old) i v }
 {
     if i < 64 {
-        let long = count_words(words);
         store_aggregate(words, 9 * (i as usize), v);
     }
 }
@@ -261,10 +219,8 @@ pub fn clear_kept(words: &mut [u64; 576])
     ensures { Kept.kept_in words.new ≡ replicate 64 nothing }
 {
     let none = aggregate::empty();
-    let mut i: u8 = 0;
-    while i < 64 {
+    for i in 0..64 {
         store_kept(words, i, none);
-        i += 1;
     }
 }
 
@@ -275,12 +231,10 @@ pub fn put_fresh(words: &mut [u64; 705], t: Config, counts: [u32; 512], neighbou
     ensures spare { Words.spare_in words.new ≡ Words.spare_in words.old }
 {
     put_config(words, t);
-    let mut i: u8 = 0;
-    while i < 64 {
+    for i in 0..64 {
         let reading = reading_at(t, &counts, i);
         let s = fresh_station(t, reading, neighbours[i as usize], i);
         store(words, i, s);
-        i += 1;
     }
 }
 
@@ -292,14 +246,11 @@ pub fn are_well_formed(words: &[u64; 705]) -> bool
     if !aggregate::is_valid(t) {
         return false;
     }
-    let k = t.k;
-    let mut i: u8 = 0;
-    while i < k {
+    for i in 0..t.k {
         let s = load(words, i);
         if !s.is_well_formed(t, i) {
             return false;
         }
-        i += 1;
     }
     true
 }

@@ -9,25 +9,13 @@ use Rattle.stations.specs.Stations.{are_well_formed}
 use Rattle.stations.proofs.are_well_formed.Invariants.{form_at, form_fails}
 use Rattle.stations.proofs.are_well_formed.Goals as goal
 
-pub config_in-t-requires : goal.config_in-t-requires
-config_in-t-requires c = tt
-
-pub is_valid-requires : goal.is_valid-requires
-is_valid-requires c = tt
-
 pub returns-then-not-is_valid : goal.returns-then-not-is_valid
 unfolding are_well_formed
 returns-then-not-is_valid c = rw (sym c.config_in-t.ensures, sym c.is_valid.ensures ∙ c.if-not-is_valid.true)
 
 pub loop-i-init : goal.loop-i-init
 unfolding all_below
-loop-i-init c = (omega arith, refl)
-
-pub load-s-requires : goal.load-s-requires
-load-s-requires c = tt
-
-pub is_well_formed-requires : goal.is_well_formed-requires
-is_well_formed-requires c = tt
+loop-i-init c = refl
 
 pub returns-then-not-is_well_formed : goal.returns-then-not-is_well_formed
 returns-then-not-is_well_formed c =
@@ -38,12 +26,6 @@ returns-then-not-is_well_formed c =
     sym (form_fails c.args.words.now t l.i c.load-s.result (omega arith) c.load-s.ensures
     c.config_in-t.ensures (omega arith) broken)
 
-pub overflow_add-i : goal.overflow_add-i
-overflow_add-i c = omega arith
-
-pub loop-i-smaller : goal.loop-i-smaller
-loop-i-smaller c = omega arith
-
 pub loop-i-preserved : goal.loop-i-preserved
 loop-i-preserved c =
     let t = c.config_in-t.result in
@@ -51,11 +33,11 @@ loop-i-preserved c =
     let most = (valid-k t (sym c.is_valid.ensures ∙ c.if-not-is_valid.false)).1 in
     let passes = sym c.is_well_formed.ensures ∙ c.if-not-is_well_formed.false in
     let here = form_at c.args.words.now t l.i c.load-s.result (omega arith) c.load-s.ensures true passes in
-    (omega arith, rw (all_below_more _ l.i, l.invariant.1, here))
+    rw (all_below_more _ l.i, l.invariant, here)
 
 pub returns : goal.returns
 unfolding are_well_formed
 returns c =
     let l = c.loop-i in
     let end : l.i ≡ c.config_in-t.result.k = omega arith in
-    rw (sym c.config_in-t.ensures, sym c.is_valid.ensures ∙ c.if-not-is_valid.false) (sym (rw end at l.invariant.1))
+    rw (sym c.config_in-t.ensures, sym c.is_valid.ensures ∙ c.if-not-is_valid.false) (sym (rw end at l.invariant))

@@ -2,7 +2,7 @@
 use mathlib.Core.Path.{◌≡◌, sym, ap, ◌∙◌}
 use mathlib.Core.Bool.{Bool, true, false, and-false}
 use mathlib.Core.List.{List}
-use Prim.Native.Nat.{ℕ, ◌≤◌, ◌<◌, ◌-◌}
+use Prim.Native.Nat.{ℕ, ◌<◌}
 use Rattle.finite.specs.Below.{all_below}
 use Rattle.finite.proofs.Below.{all_below_fails}
 use Rattle.aggregate.specs.declared.Config.{Config}
@@ -24,7 +24,4 @@ module _ (words : List ℕ) (t : Config) (i : ℕ) (s : Station) (low : i < 64) 
       rw (sym e) (simp (all_below_fails (λ j. well_formed t j (station_at (stations_in words) j)) t.k i l (form_at false broken), and-false))
 
 abbrev pub invariant-loop-i : goal.invariant-loop-i
-invariant-loop-i l = (l.i ≤ l.k) × (all_below l.i (λ j. well_formed l.t j (station_at (stations_in l.words) j)) ≡ true)
-
-abbrev pub decreases-loop-i : goal.decreases-loop-i
-decreases-loop-i l = l.k - l.i
+invariant-loop-i l = (all_below l.i (λ j. well_formed l.t j (station_at (stations_in l.words) j)) ≡ true)

@@ -11,36 +11,9 @@ use Rattle.stations.specs.Words.{stations_in}
 use Rattle.stations.proofs.Words.{length-stations}
 use Rattle.stations.proofs.put_fresh.Goals as goal
 
-pub put_config-requires : goal.put_config-requires
-put_config-requires c = tt
-
 pub loop-i-init : goal.loop-i-init
 unfolding tabulate each
-loop-i-init c = (omega arith, refl, refl, refl)
-
-pub reading_at-reading-requires : goal.reading_at-reading-requires
-reading_at-reading-requires c = omega arith
-
-pub overflow_cast-i : goal.overflow_cast-i
-overflow_cast-i c = omega arith
-
-pub offset_bounds-neighbours-i : goal.offset_bounds-neighbours-i
-offset_bounds-neighbours-i c = omega arith
-
-pub bounds-neighbours-i : goal.bounds-neighbours-i
-bounds-neighbours-i c = omega arith
-
-pub fresh_station-s-requires : goal.fresh_station-s-requires
-fresh_station-s-requires c = tt
-
-pub store-requires : goal.store-requires
-store-requires c = tt
-
-pub overflow_add-i : goal.overflow_add-i
-overflow_add-i c = omega arith
-
-pub loop-i-smaller : goal.loop-i-smaller
-loop-i-smaller c = omega arith
+loop-i-init c = (refl, refl, refl)
 
 pub loop-i-preserved : goal.loop-i-preserved
 loop-i-preserved c =
@@ -49,10 +22,9 @@ loop-i-preserved c =
     let stored = c.store.ensures in
     let inside : l.i < length (stations_in l.words) = omega (arith, length-stations l.words) in
     let s = c.fresh_station-s.ensures ∙ ap (λ (r : Reading). fresh_station a.t r (get_or a.neighbours l.i 0) l.i) c.reading_at-reading.ensures in (
-      omega arith,
-      ap (take (l.i + 1)) stored.stations ∙ tabulate_more _ (stations_in l.words) l.i c.fresh_station-s.result inside l.invariant.1 s,
-      stored.config ∙ l.invariant.2,
-      stored.spare ∙ l.invariant.3,
+      ap (take (l.i + 1)) stored.stations ∙ tabulate_more _ (stations_in l.words) l.i c.fresh_station-s.result inside l.invariant.0 s,
+      stored.config ∙ l.invariant.1,
+      stored.spare ∙ l.invariant.2,
     )
 
 pub returns : goal.returns
@@ -61,4 +33,4 @@ returns c =
     let l = c.loop-i in
     let put = c.put_config.ensures in
     let end : l.i ≡ 64 = omega arith in
-    record { config = l.invariant.2 ∙ put.config; stations = tabulate-all _ (stations_in l.words) l.i 64 end (length-stations l.words) l.invariant.1; spare = l.invariant.3 ∙ put.spare }
+    record { config = l.invariant.1 ∙ put.config; stations = tabulate-all _ (stations_in l.words) l.i 64 end (length-stations l.words) l.invariant.0; spare = l.invariant.2 ∙ put.spare }

@@ -1,64 +1,64 @@
--- `stations::reading_at` meets its contract: class by class, the count is stored over zeros. Assumes nothing.
-use mathlib.Core.Path.{◌≡◌, refl, ap, ◌∙◌}
+-- `stations::reading_at` meets its contract: the counts of the classes in use, before zeros. Assumes nothing.
+use mathlib.Core.Path.{◌≡◌, sym, ap, ◌∙◌}
 use mathlib.Core.Bool.{cond}
-use mathlib.Core.List.{List}
-use lib.Dec.{ltb}
-use Prim.Native.Nat.{ℕ, ◌+◌, ◌*◌, min}
-use lib.ListN.{get_or, replicate, length-set, get_or-replicate}
-use Rattle.finite.proofs.Below.{stored, stored_more, stored-table, tabulate_ext}
-use Rattle.stations.specs.Stations.{reading_at}
+use mathlib.Core.List.{List, ◌++◌}
+use Prim.Native.Nat.{ℕ, ◌+◌, ◌*◌, ◌-◌, ◌<◌, ◌≤◌, min}
 use native.Mathlib.Omega.{arith}
+use lib.Dec.{ltb}
+use lib.ListN.{length, get_or, take, drop, replicate, length-append, length-take, length-drop, get_or-append, get_or-replicate}
+use lib.Seq.{ext_get_or}
+use borrow.Author.Tests.{ltb-true, ltb-false}
+use Rattle.std.proofs.lemmas.List.{get_or-take, get_or-drop, get_or-append_right}
+use Rattle.finite.specs.Below.{tabulate}
+use Rattle.finite.proofs.Cases.{by_bool}
+use Rattle.finite.proofs.Below.{length-tabulate, get_d_tabulate}
+use Rattle.stations.specs.Stations.{reading_at}
 use Rattle.stations.proofs.reading_at.Goals as goal
 
-pub count_used-c-requires : goal.count_used-c-requires
-count_used-c-requires c = tt
+abbrev zeros : List ℕ
+zeros = replicate 8 0
 
-pub overflow_mul-at : goal.overflow_mul-at
-overflow_mul-at c = omega arith
+-- c numbers of a list, before zeros
+module _ (l : List ℕ) (at c : ℕ) (room : at + c ≤ length l) (few : c ≤ 8) where
+  abbrev front : List ℕ
+  front = take c (drop at l)
 
-pub loop-j-init : goal.loop-j-init
-unfolding stored
-loop-j-init c = (omega arith, refl, refl)
+  length-front : length front ≡ c
+  length-front = omega (arith, length-take c (drop at l), length-drop at l)
 
-pub overflow_add-own : goal.overflow_add-own
-overflow_add-own c = omega arith
+  length-padded : length (front ++ drop c zeros) ≡ 8
+  length-padded = omega (arith, length-front, length-append front (drop c zeros), length-drop c zeros)
 
-pub offset_bounds-counts-at : goal.offset_bounds-counts-at
-offset_bounds-counts-at c = omega arith
+  number_in : (j : ℕ) → j < c → get_or (front ++ drop c zeros) j 0 ≡ get_or l (at + j) 0
+  number_in j h =
+      let low : j < length front = omega (arith, length-front) in
+      get_or-append front (drop c zeros) 0 j low ∙ get_or-take c (drop at l) j 0 h ∙ get_or-drop at l j 0
 
-pub bounds-counts-at : goal.bounds-counts-at
-bounds-counts-at c = omega arith
+  zero_in : (j : ℕ) → c ≤ j → j < 8 → get_or (front ++ drop c zeros) j 0 ≡ 0
+  zero_in j past low =
+      get_or-append_right front (drop c zeros) c j 0 length-front past
+      ∙ get_or-drop c zeros (j - c) 0
+      ∙ get_or-replicate 8 (c + (j - c)) 0 0 (omega arith)
 
-pub offset_bounds-own-j : goal.offset_bounds-own-j
-offset_bounds-own-j c = omega arith
-
-pub bounds-own-j : goal.bounds-own-j
-bounds-own-j c = omega arith
-
-pub overflow_add-j : goal.overflow_add-j
-overflow_add-j c = omega arith
-
-pub loop-j-smaller : goal.loop-j-smaller
-loop-j-smaller c = omega arith
-
-pub loop-j-preserved : goal.loop-j-preserved
-loop-j-preserved c =
-    let args = c.args in
-    let l = c.loop-j in (
-      omega arith,
-      stored_more (λ n. get_or args.counts.now (8 * args.i + n) 0) (replicate 8 0) l.j l.own _ l.invariant.1 refl,
-      length-set l.own l.j _ ∙ l.invariant.2,
-    )
+  before_zeros : front ++ drop c zeros ≡ tabulate 8 (λ j. cond (ltb j c) (get_or l (at + j) 0) 0)
+  before_zeros =
+      let f : ℕ → ℕ = λ j. cond (ltb j c) (get_or l (at + j) 0) 0 in
+      ext_get_or 0 (front ++ drop c zeros) (tabulate 8 f) (length-padded ∙ sym (length-tabulate f 8))
+      (λ j h.
+      let low : j < 8 = omega (arith, length-padded) in
+      by_bool (ltb j c)
+      (λ t. number_in j (ltb-true j c t) ∙ sym (get_d_tabulate f 8 j 0 low ∙ rw t))
+      (λ t. zero_in j (ltb-false j c t) low ∙ sym (get_d_tabulate f 8 j 0 low ∙ rw t)))
 
 pub returns : goal.returns
 unfolding reading_at
 returns c =
-    let args = c.args in
-    let l = c.loop-j in
-    let f : ℕ → ℕ = λ n. get_or args.counts.now (8 * args.i + n) 0 in
-    let end : l.j ≡ min args.t.classes 8 = omega arith in
+    let a = c.args in
+    let at = 8 * a.i in
+    let n = c.count_used-c.result in
+    let same : n ≡ min a.t.classes 8 = c.count_used-c.ensures in
     ap (λ (counts : List ℕ). record { counts = counts })
-    (l.invariant.1
-    ∙ ap (λ (n : ℕ). stored (replicate 8 0) n f) end
-    ∙ stored-table f (replicate 8 0) 8 (min args.t.classes 8) 0 refl
-    ∙ tabulate_ext 8 _ _ (λ n h. ap (λ (x : ℕ). cond (ltb n (min args.t.classes 8)) (f n) x) (get_or-replicate 8 n 0 0 h)))
+    (ap (λ (l : List ℕ). l ++ drop n zeros) c.copy_from_slice.ensures.after
+    ∙ ap (λ (k : ℕ). take k (drop at a.counts.now) ++ drop n zeros) (omega arith)
+    ∙ before_zeros a.counts.now at n (omega arith) (omega arith)
+    ∙ ap (λ (k : ℕ). tabulate 8 (λ j. cond (ltb j k) (get_or a.counts.now (at + j) 0) 0)) same)

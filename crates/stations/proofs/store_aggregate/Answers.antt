@@ -1,10 +1,10 @@
--- `stations::store_aggregate` meets its contract: sums, then the word of missing numbers; what is stored fits. Assumes nothing.
-use mathlib.Core.Path.{sym, ap, ◌∙◌}
-use Rattle.finite.specs.Numbers.{bytes}
+-- `stations::store_aggregate` meets its contract: sums, then the word of missing numbers. Assumes nothing.
+use Prim.Native.Nat.{◌+◌, ◌-◌}
+use native.Mathlib.Omega.{arith}
+use Rattle.stations.proofs.Words.{sums_put}
 use Rattle.stations.proofs.store_aggregate.Goals as goal
 
-pub returns : goal.returns
-returns c =
-    let missing = c.missing_word-missing.ensures in
-    let stored = c.store_sums.ensures in
-    record { words = rw (stored.words, missing.word); fits = record { sums_long = stored.long; missing_again = ap (bytes 8) (sym missing.word) ∙ missing.again } }
+pub returns-clause-words : goal.returns-clause-words
+returns-clause-words c =
+    let a = c.args in
+    rw (sums_put a.words.now a.at (a.at + 8 - a.at) a.v _ (omega arith) (omega arith) (omega arith) c.copy_from_slice.ensures.after, c.missing_word.ensures.word)
