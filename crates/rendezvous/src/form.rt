@@ -34,7 +34,6 @@ pub(crate) fn put_carrying(net: &mut [u64; 705], carrying: bool)
     ensures stations { stations_in net.new ≡ stations_in net.old }
     ensures beside { beside_in net.new ≡ beside_in net.old }
 {
-    let long = stations::count_words(net);
     let w = flag_word(net[0], carrying);
     net[0] = w;
 }
