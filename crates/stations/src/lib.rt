@@ -72,13 +72,6 @@ pub fn is_in_range(kinds: u8, reports: u8, k: u8, root: u8, step: Step) -> bool
         & (!(step.kind == reports) | (step.sender == root) & (step.receiver == root))
 }
 
-// How many words there are: a reference to an array does not tell.
-pub fn count_words(words: &[u64]) -> usize
-    ensures { result ≡ length words.now }
-{
-    words.len()
-}
-
 // What the net in the words was opened with.
 pub fn config_in(words: &[u64; 705]) -> Config
     ensures { result ≡ Words.config_in words.now }
