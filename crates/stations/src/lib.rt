@@ -76,12 +76,12 @@ pub fn is_in_range(kinds: u8, reports: u8, k: u8, root: u8, step: Step) -> bool
 pub fn config_in(words: &[u64; 705]) -> Config
     ensures { result ≡ Words.config_in words.now }
 {
-    let w = words[0];
+    let [k, classes, desk, way, ..] = words[0].to_le_bytes();
     Config {
-        k: (w % 256) as u8,
-        classes: (w / 256 % 256) as u8,
-        desk: (w / 65536 % 256) as u8,
-        way: (w / 16777216 % 256) as u8,
+        k,
+        classes,
+        desk,
+        way,
     }
 }
 
@@ -89,11 +89,8 @@ pub fn config_in(words: &[u64; 705]) -> Config
 fn config_word(w: u64, t: Config) -> u64
     ensures { result ≡ Words.config_word w t }
 {
-    let k = u64::from(t.k);
-    let classes = u64::from(t.classes);
-    let desk = u64::from(t.desk);
-    let way = u64::from(t.way);
-    (((w / 4294967296 * 256 + way) * 256 + desk) * 256 + classes) * 256 + k
+    let [_, _, _, _, a, b, c, d] = w.to_le_bytes();
+    u64::from_le_bytes([t.k, t.classes, t.desk, t.way, a, b, c, d])
 }
 
 // The words of a net opened with t.
@@ -121,13 +118,13 @@ fn load_from(words: &[u64; 705], at: usize) -> Station
 {
     let held = load_aggregate(words, at);
     let unstarted = words[at + 9];
-    let w = words[at + 10];
+    let [parent, waits, state, ..] = words[at + 10].to_le_bytes();
     Station {
-        held: held,
-        unstarted: unstarted,
-        parent: (w % 256) as u8,
-        waits: (w / 256 % 256) as u8,
-        state: (w / 65536 % 256) as u8,
+        held,
+        unstarted,
+        parent,
+        waits,
+        state,
     }
 }
 
@@ -155,10 +152,8 @@ fn store_aggregate(words: &mut [u64], at: usize, v: Aggregate)
 fn fields_word(w: u64, s: Station) -> u64
     ensures { result ≡ Words.fields_word w s }
 {
-    let parent = u64::from(s.parent);
-    let waits = u64::from(s.waits);
-    let state = u64::from(s.state);
-    ((w / 16777216 * 256 + state) * 256 + waits) * 256 + parent
+    let [_, _, _, a, b, c, d, e] = w.to_le_bytes();
+    u64::from_le_bytes([s.parent, s.waits, s.state, a, b, c, d, e])
 }
 
 fn store_from(words: &mut [u64; 705], at: usize, s: Station)

@@ -10,4 +10,5 @@ pub returns : goal.returns
 unfolding config_in
 returns c =
     let w = get_or c.args.words.now 0 0 in
-    ap (λ (x : ℕ). record { k = x % 2 ^ 8; classes = byte_of 1 w; desk = byte_of 2 w; way = byte_of 3 w }) (sym (div-one w))
+    rw c.to_le_bytes.ensures
+    (ap (λ (x : ℕ). record { k = x % 2 ^ 8; classes = byte_of 1 w; desk = byte_of 2 w; way = byte_of 3 w }) (sym (div-one w)))

@@ -13,5 +13,6 @@ returns c =
     let a = c.args in
     let words = a.words.now in
     let w = get_or words (a.at + 10) 0 in
-    ap₂ (λ (held : Aggregate) (x : ℕ). record { held = held; unstarted = get_or words (a.at + 9) 0; parent = x % 2 ^ 8; waits = byte_of 1 w; state = byte_of 2 w })
-    c.load_aggregate-held.ensures (sym (div-one w))
+    rw c.to_le_bytes.ensures
+    (ap₂ (λ (held : Aggregate) (x : ℕ). record { held = held; unstarted = get_or words (a.at + 9) 0; parent = x % 2 ^ 8; waits = byte_of 1 w; state = byte_of 2 w })
+    c.load_aggregate-held.ensures (sym (div-one w)))
