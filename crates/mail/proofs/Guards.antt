@@ -1,19 +1,13 @@
 -- A mailbox that there is: for stations below 64 the guards of reading and writing say nothing. Assumes nothing.
 use mathlib.Core.Path.{◌≡◌}
-use mathlib.Core.Bool.{true, ◌&&◌}
 use mathlib.Core.List.{List}
 use Prim.Native.Nat.{ℕ, ◌<◌}
-use lib.Dec.{ltb}
-use borrow.Author.Tests.{lt-ltb, ltb-true}
-use Rattle.finite.proofs.Cases.{and_both}
+use borrow.Author.Tests.{lt-ltb}
 use Rattle.aggregate.specs.declared.Config.{Config}
 use Rattle.aggregate.specs.declared.Aggregate.{Aggregate}
 use Rattle.mail.specs.declared.Mailbox.{Mailbox}
 use Rattle.mail.specs.Mail.{box_at, brought_at, with_box, starts_posted}
 use Rattle.mail.specs.Writing.{box_read, brought_read, box_written, starts_written}
-
-pub both_low : (s r : ℕ) → (ltb s 64 && ltb r 64) ≡ true → (s < 64) × (r < 64)
-both_low s r t = let b = and_both (ltb s 64) (ltb r 64) t in (ltb-true s 64 b.0, ltb-true r 64 b.1)
 
 module _ (boxes : List ℕ) (s : ℕ) (hs : s < 64) where
   pub starts_written_lem : (stations : ℕ) → starts_written boxes s stations ≡ starts_posted boxes s stations

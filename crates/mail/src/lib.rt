@@ -4,11 +4,14 @@
 // A mailbox itself is an enum: what is read from one place and written to one. An enum holds no array, so what an answer brings stands beside it.
 #![tactic(auto)]
 
-ghost use Rattle.std.specs.Prelude.{◌≡◌, ◌<◌, length, replicate};
+ghost use Rattle.std.specs.Prelude.{◌≡◌, ◌<◌};
 ghost use Rattle.mail.specs.Mail;
 ghost use Rattle.mail.specs.Writing;
 
 use aggregate::{Aggregate, Config};
+use place::{ANSWERS, Place};
+
+mod place;
 
 // What a station sends another.
 #[derive(Clone, Copy)]
@@ -17,25 +20,23 @@ pub enum Message {
     Answer,
 }
 
-// 01: a box.
+// 01: a box. The document has an enum of its own for it, so no Option stands here.
 #[derive(Clone, Copy)]
 pub enum Mailbox {
     Empty,
     Full(Message),
 }
 
-// What the mailbox between two stations below 64 holds.
-fn look(boxes: &[u64; 36992], from: u8, to: u8) -> Mailbox
-    requires { (from < 64) × (to < 64) }
-    ensures { result ≡ Mail.box_at boxes.now from to }
+fn look(boxes: &[u64; 36992], p: Place) -> Mailbox
+    ensures { result ≡ Mail.box_at boxes.now p.from p.to }
 {
-    let at = from as usize;
+    let at = p.from as usize;
     let starts = boxes[at];
-    let answers = boxes[64 + at];
-    if bitset::contains(starts, to) {
+    let answers = boxes[ANSWERS + at];
+    if bitset::contains(starts, p.to) {
         return Mailbox::Full(Message::Start);
     }
-    if bitset::contains(answers, to) {
+    if bitset::contains(answers, p.to) {
         return Mailbox::Full(Message::Answer);
     }
     Mailbox::Empty
@@ -45,37 +46,30 @@ fn look(boxes: &[u64; 36992], from: u8, to: u8) -> Mailbox
 pub fn box_at(boxes: &[u64; 36992], from: u8, to: u8) -> Mailbox
     ensures { result ≡ Writing.box_read boxes.now from to }
 {
-    if (from < 64) & (to < 64) {
-        look(boxes, from, to)
-    } else {
-        Mailbox::Empty
+    match Place::between(from, to) {
+        Some(p) => look(boxes, p),
+        None => Mailbox::Empty,
     }
 }
 
-// What an answer between two stations below 64 brings: only the words of the classes in use are read.
-fn load(t: Config, boxes: &[u64; 36992], from: u8, to: u8) -> Aggregate
-    requires { (from < 64) × (to < 64) }
-    ensures { result ≡ Mail.brought_at t boxes.now from to }
+// What an answer brings: only the words of the classes in use are read.
+fn load(t: Config, boxes: &[u64; 36992], p: Place) -> Aggregate
+    ensures { result ≡ Mail.brought_at t boxes.now p.from p.to }
 {
-    let at = (from as usize) * 64 + (to as usize);
-    let c = aggregate::count_used(t);
     let mut sums = [0u64; 8];
-    let mut j: usize = 0;
-    while j < c {
-        sums[j] = boxes[4224 + 4096 * j + at];
-        j += 1;
+    for j in 0..aggregate::count_used(t) {
+        sums[j] = boxes[p.sum(j)];
     }
-    aggregate::from_words(t, sums, boxes[128 + at])
+    aggregate::from_words(t, sums, boxes[p.missing()])
 }
 
 // What an answer from one station to another brings; other numbers have no mailboxes.
 pub fn brought_at(t: Config, boxes: &[u64; 36992], from: u8, to: u8) -> Aggregate
     ensures { result ≡ Writing.brought_read t boxes.now from to }
 {
-    if (from < 64) & (to < 64) {
-        load(t, boxes, from, to)
-    } else {
-        aggregate::empty()
+    match Place::between(from, to) {
+        Some(p) => load(t, boxes, p),
+        None => aggregate::empty(),
     }
 }
 
@@ -83,32 +77,18 @@ pub fn brought_at(t: Config, boxes: &[u64; 36992], from: u8, to: u8) -> Aggregat
 pub fn is_box_bounded(t: Config, boxes: &[u64; 36992], from: u8, to: u8) -> bool
     ensures { result ≡ Mail.mailbox_bounded t (Writing.box_read boxes.now from to) (Writing.brought_read t boxes.now from to) }
 {
-    let content = box_at(boxes, from, to);
-    match content {
+    match box_at(boxes, from, to) {
         Mailbox::Empty => true,
-        Mailbox::Full(message) => match message {
-            Message::Start => true,
-            Message::Answer => aggregate::is_bounded(t, brought_at(t, boxes, from, to)),
-        },
+        Mailbox::Full(Message::Start) => true,
+        Mailbox::Full(Message::Answer) => aggregate::is_bounded(t, brought_at(t, boxes, from, to)),
     }
 }
 
-// Zero in all words. An array of them would be built on the stack.
-fn zero(words: &mut [u64])
-    ensures { words.new ≡ replicate (length words.old) 0 }
-{
-    let mut i: usize = 0;
-    while i < words.len() {
-        words[i] = 0;
-        i += 1;
-    }
-}
-
-// No mail.
+// No mail. An array of zeros to assign would be built on the stack.
 pub fn clear(boxes: &mut [u64; 36992])
     ensures { boxes.new ≡ Mail.no_mail }
 {
-    zero(boxes);
+    boxes.fill(0);
 }
 
 // Other sets for a sender.
@@ -118,70 +98,44 @@ fn put_sets(boxes: &mut [u64; 36992], from: u8, starts: u64, answers: u64)
 {
     let at = from as usize;
     boxes[at] = starts;
-    boxes[64 + at] = answers;
+    boxes[ANSWERS + at] = answers;
 }
 
-// Whether a start waits between two stations, and whether an answer does.
-fn put_waiting(boxes: &mut [u64; 36992], from: u8, to: u8, start: bool, answer: bool)
-    requires { from < 64 }
-    ensures { boxes.new ≡ Mail.with_waiting boxes.old from to start answer }
+// Whether a start waits, and whether an answer does.
+fn put_waiting(boxes: &mut [u64; 36992], p: Place, start: bool, answer: bool)
+    ensures { boxes.new ≡ Mail.with_waiting boxes.old p.from p.to start answer }
 {
-    let at = from as usize;
-    let starts = bitset::put(boxes[at], to, start);
-    let answers = bitset::put(boxes[64 + at], to, answer);
-    put_sets(boxes, from, starts, answers);
+    let at = p.from as usize;
+    let starts = bitset::put(boxes[at], p.to, start);
+    let answers = bitset::put(boxes[ANSWERS + at], p.to, answer);
+    put_sets(boxes, p.from, starts, answers);
 }
 
 // The sums that an answer brings: all eight, so that those past the classes in use are not left from another answer.
-fn store_sums(boxes: &mut [u64; 36992], from: u8, to: u8, v: Aggregate)
-    requires { (from < 64) × (to < 64) }
-    ensures { boxes.new ≡ Mail.with_sums boxes.old from to v 8 }
+fn store_sums(boxes: &mut [u64; 36992], p: Place, v: Aggregate)
+    ensures { boxes.new ≡ Mail.with_sums boxes.old p.from p.to v 8 }
 {
-    let at = (from as usize) * 64 + (to as usize);
-    let mut j: usize = 0;
-    while j < 8 {
-        let x = aggregate::class_of(v, j);
-        boxes[4224 + 4096 * j + at] = x.sum;
-        j += 1;
+    for j in 0..8 {
+        boxes[p.sum(j)] = aggregate::class_of(v, j).sum;
     }
 }
 
 // An answer with what it brings.
-fn store_answer(boxes: &mut [u64; 36992], from: u8, to: u8, v: Aggregate)
-    requires { (from < 64) × (to < 64) }
-    ensures { boxes.new ≡ Mail.with_answer boxes.old from to v }
+fn store_answer(boxes: &mut [u64; 36992], p: Place, v: Aggregate)
+    ensures { boxes.new ≡ Mail.with_answer boxes.old p.from p.to v }
 {
-    put_waiting(boxes, from, to, false, true);
-    let missing = aggregate::missing_word(v);
-    boxes[128 + (from as usize) * 64 + (to as usize)] = missing;
-    store_sums(boxes, from, to, v);
+    put_waiting(boxes, p, false, true);
+    boxes[p.missing()] = aggregate::missing_word(v);
+    store_sums(boxes, p, v);
 }
 
-fn store_message(boxes: &mut [u64; 36992], from: u8, to: u8, m: Message, v: Aggregate)
-    requires { (from < 64) × (to < 64) }
-    ensures { boxes.new ≡ Mail.with_message boxes.old from to m v }
-{
-    match m {
-        Message::Start => {
-            put_waiting(boxes, from, to, true, false);
-        }
-        Message::Answer => {
-            store_answer(boxes, from, to, v);
-        }
-    }
-}
-
-fn store(boxes: &mut [u64; 36992], from: u8, to: u8, b: Mailbox, v: Aggregate)
-    requires { (from < 64) × (to < 64) }
-    ensures { boxes.new ≡ Mail.with_box boxes.old from to b v }
+fn store(boxes: &mut [u64; 36992], p: Place, b: Mailbox, v: Aggregate)
+    ensures { boxes.new ≡ Mail.with_box boxes.old p.from p.to b v }
 {
     match b {
-        Mailbox::Empty => {
-            put_waiting(boxes, from, to, false, false);
-        }
-        Mailbox::Full(m) => {
-            store_message(boxes, from, to, m, v);
-        }
+        Mailbox::Empty => put_waiting(boxes, p, false, false),
+        Mailbox::Full(Message::Start) => put_waiting(boxes, p, true, false),
+        Mailbox::Full(Message::Answer) => store_answer(boxes, p, v),
     }
 }
 
@@ -189,8 +143,8 @@ fn store(boxes: &mut [u64; 36992], from: u8, to: u8, b: Mailbox, v: Aggregate)
 pub fn put_box(boxes: &mut [u64; 36992], from: u8, to: u8, b: Mailbox, v: Aggregate)
     ensures { boxes.new ≡ Writing.box_written boxes.old from to b v }
 {
-    if (from < 64) & (to < 64) {
-        store(boxes, from, to, b, v);
+    if let Some(p) = Place::between(from, to) {
+        store(boxes, p, b, v);
     }
 }
 
@@ -200,7 +154,7 @@ fn store_starts(boxes: &mut [u64; 36992], from: u8, stations: u64)
 {
     let at = from as usize;
     let starts = bitset::union(boxes[at], stations);
-    let answers = bitset::minus(boxes[64 + at], stations);
+    let answers = bitset::minus(boxes[ANSWERS + at], stations);
     put_sets(boxes, from, starts, answers);
 }
 

@@ -1,11 +1,8 @@
 -- `mail::clear` meets its contract: every word is zeroed. Assumes nothing.
-use mathlib.Core.Path.{◌≡◌, ap, ◌∙◌}
+use mathlib.Core.Path.{ap, ◌∙◌}
 use Prim.Native.Nat.{ℕ}
-use lib.ListN.{length, replicate}
-use native.Mathlib.Omega.{arith}
+use lib.ListN.{replicate}
 use Rattle.mail.proofs.clear.Goals as goal
 
 pub returns : goal.returns
-returns c =
-    let long : length c.args.boxes.now ≡ 36992 = omega arith in
-    c.zero.ensures ∙ ap (λ (n : ℕ). replicate n 0) long
+returns c = c.fill.ensures.after (λ y h. h) ∙ ap (λ (n : ℕ). replicate n 0) c.told-boxes

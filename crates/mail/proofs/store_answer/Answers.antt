@@ -4,4 +4,4 @@ use Rattle.mail.proofs.store_answer.Goals as goal
 
 pub returns : goal.returns
 unfolding with_answer
-returns c = rw (c.store_sums.ensures, c.missing_word-missing.ensures.word, c.put_waiting.ensures)
+returns c = rw (c.store_sums.ensures, c.missing_word.ensures.word, c.missing.ensures, c.put_waiting.ensures)

@@ -19,19 +19,17 @@ sums_more boxes s r v j l p n e f g = rw (add-one j, e, f, g)
 
 pub loop-j-init : goal.loop-j-init
 unfolding with_sums
-loop-j-init c = (omega arith, refl)
+loop-j-init c = refl
 
 pub loop-j-preserved : goal.loop-j-preserved
 loop-j-preserved c =
     let a = c.args in
-    let l = c.loop-j in (
-      omega arith,
-      sums_more a.boxes.now a.from a.to a.v l.j l.boxes _ c.class_of-x.result.sum l.invariant.1 (omega arith)
-          (ap (λ (x : Cell). x.sum) c.class_of-x.ensures),
-    )
+    let l = c.loop-j in
+    sums_more a.boxes.now a.p.from a.p.to a.v l.j l.boxes _ c.class_of.result.sum l.invariant c.sum.ensures
+    (ap (λ (x : Cell). x.sum) c.class_of.ensures)
 
 pub returns : goal.returns
 returns c =
     let l = c.loop-j in
     let all : l.j ≡ 8 = omega arith in
-    rw all at l.invariant.1
+    rw all at l.invariant
