@@ -26,10 +26,8 @@ fn takes(receiver: Station, content: Mailbox) -> bool
     let state = receiver.state;
     match content {
         Mailbox::Empty => false,
-        Mailbox::Full(message) => match message {
-            Message::Start => (state == station::ASLEEP) | (state == station::ACTIVE),
-            Message::Answer => state == station::ACTIVE,
-        },
+        Mailbox::Full(Message::Start) => (state == station::ASLEEP) | (state == station::ACTIVE),
+        Mailbox::Full(Message::Answer) => state == station::ACTIVE,
     }
 }
 
@@ -48,14 +46,14 @@ pub(crate) fn may_report(root: Station) -> bool
 }
 
 // Whether the step's receiver, and what is in the mailbox to it, let the step be made.
+#[tactic(auto, unfolding(crate::specs::Rules::may_step))]
 pub(crate) fn may_step(step: Step, receiver: Station, content: Mailbox) -> bool
     ensures { result ≡ may_step step receiver content }
 {
-    let kind = step.kind;
-    match kind {
+    match step.kind {
         DELIVERY => may_deliver(step.sender, step.receiver, receiver, content),
         REPORT => may_report(receiver),
-        0 | 3..=255 => false,
+        _ => false,
     }
 }
 
@@ -63,9 +61,10 @@ pub(crate) fn may_step(step: Step, receiver: Station, content: Mailbox) -> bool
 fn awaken(receiver: Station, from: u8) -> Station
     ensures { result ≡ awakened from receiver }
 {
-    let mut next = receiver.woken(from);
-    next.unstarted = receiver.unstarted;
-    next
+    Station {
+        unstarted: receiver.unstarted,
+        ..receiver.woken(from)
+    }
 }
 
 // The receiver after it took what the mailbox between two stations holds: the words of an answer are read only where there is one.
@@ -74,17 +73,16 @@ fn take(t: Config, boxes: &[u64; 36992], from: u8, to: u8, receiver: Station) ->
     requires sums { (bounded t receiver.held ≡ true) × (mailbox_bounded t (box_at boxes.now from to) (brought_at t boxes.now from to) ≡ true) }
     ensures { result ≡ taken t from (box_at boxes.now from to) (brought_at t boxes.now from to) receiver }
 {
-    let content = mail::box_at(boxes, from, to);
-    match content {
+    match mail::box_at(boxes, from, to) {
         Mailbox::Empty => receiver,
-        Mailbox::Full(message) => match message {
-            Message::Start => if receiver.state == station::ASLEEP {
-                awaken(receiver, from)
-            } else {
-                receiver.start_taken()
-            },
-            Message::Answer => receiver.answer_taken(t, mail::brought_at(t, boxes, from, to)),
-        },
+        Mailbox::Full(Message::Start) if receiver.state == station::ASLEEP => awaken(
+            receiver, from,
+        ),
+        Mailbox::Full(Message::Start) => receiver.start_taken(),
+        Mailbox::Full(Message::Answer) => receiver.answer_taken(
+            t,
+            mail::brought_at(t, boxes, from, to),
+        ),
     }
 }
 
@@ -116,8 +114,7 @@ pub(crate) fn deliver(
         mail::post_starts(boxes, to, others);
     }
     if must_answer(t, to, s) {
-        let held = s.held;
-        let given = aggregate::clip(t, held);
+        let given = aggregate::clip(t, s.held);
         mail::put_box(boxes, to, s.parent, Mailbox::Full(Message::Answer), given);
         return s.ended();
     }
@@ -133,8 +130,7 @@ pub(crate) fn receive(t: Config, boxes: &mut [u64; 36992], step: Step, receiver:
     ensures receiver { result ≡ receiver_made t boxes.old step receiver }
     ensures boxes { boxes.new ≡ boxes_made t boxes.old step receiver }
 {
-    let kind = step.kind;
-    match kind {
+    match step.kind {
         DELIVERY => deliver(t, boxes, step.sender, step.receiver, receiver),
         _ => receiver.ended(),
     }
