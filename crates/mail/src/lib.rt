@@ -27,6 +27,7 @@ pub enum Mailbox {
     Full(Message),
 }
 
+#[tactic(auto, unfolding(crate::specs::Mail::box_at))]
 fn look(boxes: &[u64; 36992], p: Place) -> Mailbox
     ensures { result ≡ Mail.box_at boxes.now p.from p.to }
 {
@@ -102,6 +103,7 @@ fn put_sets(boxes: &mut [u64; 36992], from: u8, starts: u64, answers: u64)
 }
 
 // Whether a start waits, and whether an answer does.
+#[tactic(auto, unfolding(crate::specs::Mail::with_waiting))]
 fn put_waiting(boxes: &mut [u64; 36992], p: Place, start: bool, answer: bool)
     ensures { boxes.new ≡ Mail.with_waiting boxes.old p.from p.to start answer }
 {
@@ -112,6 +114,7 @@ fn put_waiting(boxes: &mut [u64; 36992], p: Place, start: bool, answer: bool)
 }
 
 // The sums that an answer brings: all eight, so that those past the classes in use are not left from another answer.
+#[tactic(auto, unfolding(crate::specs::Mail::with_sums))]
 fn store_sums(boxes: &mut [u64; 36992], p: Place, v: Aggregate)
     ensures { boxes.new ≡ Mail.with_sums boxes.old p.from p.to v 8 }
 {
@@ -121,6 +124,7 @@ fn store_sums(boxes: &mut [u64; 36992], p: Place, v: Aggregate)
 }
 
 // An answer with what it brings.
+#[tactic(auto, unfolding(crate::specs::Mail::with_answer))]
 fn store_answer(boxes: &mut [u64; 36992], p: Place, v: Aggregate)
     ensures { boxes.new ≡ Mail.with_answer boxes.old p.from p.to v }
 {
@@ -129,6 +133,7 @@ fn store_answer(boxes: &mut [u64; 36992], p: Place, v: Aggregate)
     store_sums(boxes, p, v);
 }
 
+#[tactic(auto, unfolding(crate::specs::Mail::with_box, crate::specs::Mail::with_message))]
 fn store(boxes: &mut [u64; 36992], p: Place, b: Mailbox, v: Aggregate)
     ensures { boxes.new ≡ Mail.with_box boxes.old p.from p.to b v }
 {
@@ -148,6 +153,7 @@ pub fn put_box(boxes: &mut [u64; 36992], from: u8, to: u8, b: Mailbox, v: Aggreg
     }
 }
 
+#[tactic(auto, unfolding(crate::specs::Mail::starts_posted))]
 fn store_starts(boxes: &mut [u64; 36992], from: u8, stations: u64)
     requires { from < 64 }
     ensures { boxes.new ≡ Mail.starts_posted boxes.old from stations }

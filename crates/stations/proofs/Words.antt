@@ -112,9 +112,9 @@ module _ (words : List ℕ) (long : length words ≡ 705) (t : Config) (byte : (
           → ◌≡◌ {A = Config} (record { k = k; classes = c; desk = r; way = v }) (record { k = l; classes = d; desk = s; way = w })
       config_of_lem e f g h = rw (e, f, g, h)
 
-  pub config_put-stations : stations_in (with_config words t) ≡ stations_in words
+  pub config_put_stations : stations_in (with_config words t) ≡ stations_in words
   unfolding stations_in
-  config_put-stations = tabulate_ext 64 _ _ (λ i l. station_alike (with_config words t) words (first_word i) (λ j u. later_word i j))
+  config_put_stations = tabulate_ext 64 _ _ (λ i l. station_alike (with_config words t) words (first_word i) (λ j u. later_word i j))
 
   pub config_put_spare : spare_in (with_config words t) ≡ spare_in words
   unfolding spare_in

@@ -27,6 +27,7 @@ pub fn blank() -> Station
 }
 
 // The counts of station i, of a map's counts: eight places a station, of which those of the classes in use are read.
+#[tactic(auto, using(crate::proofs::Counts::before_zeros), unfolding(crate::specs::Stations::reading_at))]
 fn reading_at(t: Config, counts: &[u32; 512], i: u8) -> Reading
     requires { i < 64 }
     ensures { result ≡ Rules.reading_at t counts.now i }
@@ -39,6 +40,7 @@ fn reading_at(t: Config, counts: &[u32; 512], i: u8) -> Reading
 }
 
 // Station i before the first step, of its counts and its neighbours.
+#[tactic(auto, unfolding(crate::specs::Stations::fresh_station))]
 fn fresh_station(t: Config, reading: Reading, neighbours: u64, i: u8) -> Station
     ensures { result ≡ Rules.fresh_station t reading neighbours i }
 {
@@ -73,6 +75,7 @@ pub fn is_in_range(kinds: u8, reports: u8, k: u8, root: u8, step: Step) -> bool
 }
 
 // What the net in the words was opened with.
+#[tactic(auto, unfolding(crate::specs::Words::config_in))]
 pub fn config_in(words: &[u64; 705]) -> Config
     ensures { result ≡ Words.config_in words.now }
 {
@@ -94,6 +97,7 @@ fn config_word(w: u64, t: Config) -> u64
 }
 
 // The words of a net opened with t.
+#[tactic(auto, using(crate::proofs::Words::config_put, crate::proofs::Words::config_put_stations, crate::proofs::Words::config_put_spare), unfolding(crate::specs::Words::with_config))]
 pub fn put_config(words: &mut [u64; 705], t: Config)
     ensures words { words.new ≡ Words.with_config words.old t }
     ensures config { Words.config_in words.new ≡ t }
@@ -103,6 +107,7 @@ pub fn put_config(words: &mut [u64; 705], t: Config)
     words[0] = config_word(words[0], t);
 }
 
+#[tactic(auto, using(crate::proofs::Words::words_between), unfolding(crate::specs::Words::sums_in))]
 fn load_aggregate(words: &[u64], at: usize) -> Aggregate
     requires { at + 9 ≤ length words.now }
     ensures { result ≡ Words.aggregate_from words.now at }
@@ -112,6 +117,7 @@ fn load_aggregate(words: &[u64], at: usize) -> Aggregate
     aggregate::of_words(sums, words[at + 8])
 }
 
+#[tactic(auto, unfolding(crate::specs::Words::station_from))]
 fn load_from(words: &[u64; 705], at: usize) -> Station
     requires { at + 11 ≤ 705 }
     ensures { result ≡ Words.station_from words.now at }
@@ -139,6 +145,7 @@ pub fn load(words: &[u64; 705], i: u8) -> Station
     }
 }
 
+#[tactic(auto, using(crate::proofs::Words::sums_put))]
 fn store_aggregate(words: &mut [u64], at: usize, v: Aggregate)
     requires { at + 9 ≤ length words.old }
     ensures words { words.new ≡ Words.with_aggregate words.old at v }
@@ -156,6 +163,7 @@ fn fields_word(w: u64, s: Station) -> u64
     u64::from_le_bytes([s.parent, s.waits, s.state, a, b, c, d, e])
 }
 
+#[tactic(auto, unfolding(crate::specs::Words::with_station))]
 fn store_from(words: &mut [u64; 705], at: usize, s: Station)
     requires { at + 11 ≤ 705 }
     ensures words { words.new ≡ Words.with_station words.old at s }
@@ -203,6 +211,7 @@ pub fn store_kept(words: &mut [u64; 576], i: u8, v: Aggregate)
 }
 
 // Nobody keeps anything.
+#[tactic(auto, using(crate::proofs::Kept::cleared_none, crate::proofs::Kept::cleared_next, crate::proofs::Kept::cleared_all))]
 pub fn clear_kept(words: &mut [u64; 576])
     ensures { Kept.kept_in words.new ≡ replicate 64 nothing }
 {

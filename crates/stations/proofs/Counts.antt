@@ -1,8 +1,8 @@
--- `stations::reading_at` meets its contract: the counts of the classes in use, before zeros. Assumes nothing.
-use mathlib.Core.Path.{◌≡◌, sym, ap, ◌∙◌}
+-- The counts of the classes in use, before zeros: c numbers of a list, of eight places. Assumes nothing.
+use mathlib.Core.Path.{◌≡◌, sym, ◌∙◌}
 use mathlib.Core.Bool.{cond}
 use mathlib.Core.List.{List, ◌++◌}
-use Prim.Native.Nat.{ℕ, ◌+◌, ◌*◌, ◌-◌, ◌<◌, ◌≤◌, min}
+use Prim.Native.Nat.{ℕ, ◌+◌, ◌-◌, ◌<◌, ◌≤◌}
 use native.Mathlib.Omega.{arith}
 use lib.Dec.{ltb}
 use lib.ListN.{length, get_or, take, drop, replicate, length-append, length-take, length-drop, get_or-append, get_or-replicate}
@@ -12,15 +12,12 @@ use Rattle.std.proofs.lemmas.List.{get_or-take, get_or-drop, get_or-append_right
 use Rattle.finite.specs.Below.{tabulate}
 use Rattle.finite.proofs.Cases.{by_bool}
 use Rattle.finite.proofs.Below.{length-tabulate, get_d_tabulate}
-use Rattle.stations.specs.Stations.{reading_at}
-use Rattle.stations.proofs.reading_at.Goals as goal
 
-abbrev zeros : List ℕ
+abbrev pub zeros : List ℕ
 zeros = replicate 8 0
 
--- c numbers of a list, before zeros
 module _ (l : List ℕ) (at c : ℕ) (room : at + c ≤ length l) (few : c ≤ 8) where
-  abbrev front : List ℕ
+  abbrev pub front : List ℕ
   front = take c (drop at l)
 
   length-front : length front ≡ c
@@ -40,7 +37,7 @@ module _ (l : List ℕ) (at c : ℕ) (room : at + c ≤ length l) (few : c ≤ 8
       ∙ get_or-drop c zeros (j - c) 0
       ∙ get_or-replicate 8 (c + (j - c)) 0 0 (omega arith)
 
-  before_zeros : front ++ drop c zeros ≡ tabulate 8 (λ j. cond (ltb j c) (get_or l (at + j) 0) 0)
+  pub before_zeros : front ++ drop c zeros ≡ tabulate 8 (λ j. cond (ltb j c) (get_or l (at + j) 0) 0)
   before_zeros =
       let f : ℕ → ℕ = λ j. cond (ltb j c) (get_or l (at + j) 0) 0 in
       ext_get_or 0 (front ++ drop c zeros) (tabulate 8 f) (length-padded ∙ sym (length-tabulate f 8))
@@ -49,16 +46,3 @@ module _ (l : List ℕ) (at c : ℕ) (room : at + c ≤ length l) (few : c ≤ 8
       by_bool (ltb j c)
       (λ t. number_in j (ltb-true j c t) ∙ sym (get_d_tabulate f 8 j 0 low ∙ rw t))
       (λ t. zero_in j (ltb-false j c t) low ∙ sym (get_d_tabulate f 8 j 0 low ∙ rw t)))
-
-pub returns : goal.returns
-unfolding reading_at
-returns c =
-    let a = c.args in
-    let at = 8 * a.i in
-    let n = c.count_used-c.result in
-    let same : n ≡ min a.t.classes 8 = c.count_used-c.ensures in
-    ap (λ (counts : List ℕ). record { counts = counts })
-    (ap (λ (l : List ℕ). l ++ drop n zeros) c.copy_from_slice.ensures.after
-    ∙ ap (λ (k : ℕ). take k (drop at a.counts.now) ++ drop n zeros) (omega arith)
-    ∙ before_zeros a.counts.now at n (omega arith) (omega arith)
-    ∙ ap (λ (k : ℕ). tabulate 8 (λ j. cond (ltb j k) (get_or a.counts.now (at + j) 0) 0)) same)

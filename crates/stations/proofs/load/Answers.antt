@@ -1,9 +1,0 @@
--- `stations::load` meets its contract: the guard is that of the definition. Assumes nothing.
-use borrow.Author.Tests.{lt-ltb, le-ltb}
-use Rattle.stations.proofs.load.Goals as goal
-
-pub returns-then-i-lt64 : goal.returns-then-i-lt64
-returns-then-i-lt64 c = rw (lt-ltb _ _ c.if-i-lt64.true) c.load_from.ensures
-
-pub returns-else-i-lt64 : goal.returns-else-i-lt64
-returns-else-i-lt64 c = rw (le-ltb _ _ c.if-i-lt64.false) c.blank.ensures
