@@ -73,16 +73,15 @@ fn take(t: Config, boxes: &[u64; 36992], from: u8, to: u8, receiver: Station) ->
     requires sums { (bounded t receiver.held ≡ true) × (mailbox_bounded t (box_at boxes.now from to) (brought_at t boxes.now from to) ≡ true) }
     ensures { result ≡ taken t from (box_at boxes.now from to) (brought_at t boxes.now from to) receiver }
 {
+    let asleep = receiver.state == station::ASLEEP;
     match mail::box_at(boxes, from, to) {
         Mailbox::Empty => receiver,
-        Mailbox::Full(Message::Start) if receiver.state == station::ASLEEP => awaken(
-            receiver, from,
-        ),
+        Mailbox::Full(Message::Start) if asleep => awaken(receiver, from),
         Mailbox::Full(Message::Start) => receiver.start_taken(),
-        Mailbox::Full(Message::Answer) => receiver.answer_taken(
-            t,
-            mail::brought_at(t, boxes, from, to),
-        ),
+        Mailbox::Full(Message::Answer) => {
+            let brought = mail::brought_at(t, boxes, from, to);
+            receiver.answer_taken(t, brought)
+        }
     }
 }
 
