@@ -6,12 +6,9 @@ use Prim.Native.Nat.{ℕ, zero, suc, ◌+◌, ◌*◌, ◌/◌, ◌%◌, ◌^◌
 use native.Mathlib.Nat.{not-suc-le-zero, div-one, div-div-eq-div-mul, mul_comm}
 use native.Mathlib.Omega.{arith}
 use lib.Arith.{digits_div, digits_mod}
-use lib.ListN.{length, get_or, set, take, drop, length-set, length-take, length-drop}
-use lib.Seq.{get_or-set_same, get_or-set_other, ext_get_or, paste, paste-zero, paste-suc}
-use borrow.Rule.Slice.PartMut.{put_mid}
+use lib.ListN.{length, get_or, set, length-set}
+use lib.Seq.{get_or-set_same, get_or-set_other, ext_get_or}
 use borrow.Author.Tests.{lt-ltb}
-use Rattle.std.proofs.lemmas.List.{get_or-take, get_or-drop}
-use Rattle.std.proofs.lemmas.Slice.{put_mid-paste}
 use Rattle.finite.specs.Below.{tabulate}
 use Rattle.finite.specs.Numbers.{bytes}
 use Rattle.finite.proofs.Cases.{by_eq}
@@ -53,16 +50,6 @@ module _ (words : List ℕ) where
 
     pub station_read_lem : station_read words i ≡ station_at (stations_in words) i
     station_read_lem = rw (lt-ltb i 64 low) (sym station_at_lem)
-
--- ---- n words that stand together
-pub words_between : (l : List ℕ) (at n k : ℕ) → at + n ≤ length l → k ≡ n → take k (drop at l) ≡ tabulate n (λ j. get_or l (at + j) 0)
-words_between l at n k room e =
-    let f : ℕ → ℕ = λ j. get_or l (at + j) 0 in
-    let long : length (take k (drop at l)) ≡ n = omega (arith, length-take k (drop at l), length-drop at l) in
-    ext_get_or 0 (take k (drop at l)) (tabulate n f) (long ∙ sym (length-tabulate f n))
-    (λ j h.
-    let low : j < n = omega (arith, long) in
-    get_or-take k (drop at l) j 0 (omega arith) ∙ get_or-drop at l j 0 ∙ sym (get_d_tabulate f n j 0 low))
 
 -- ---- what is read of words that are alike
 module _ (l m : List ℕ) where
@@ -148,19 +135,6 @@ sums_same words at v j (suc n) l room =
     (λ q.
     get_or-set_other (with_sums words at v n) (at + n) (at + j) (cell v n).sum 0 (λ e. q (omega arith))
     ∙ sums_same words at v j n (omega arith) (omega arith))
-
--- that is, n sums copied to their place at once
-sums_copied : (words : List ℕ) (at : ℕ) (v : Aggregate) (n : ℕ) → at + n ≤ length words → n ≤ length v.sums
-    → with_sums words at v n ≡ paste words at v.sums n
-unfolding with_sums
-sums_copied words at v zero room enough = paste-zero words at v.sums
-sums_copied words at v (suc n) room enough =
-    rw (sums_copied words at v n (omega arith) (omega arith)) (paste-suc words at v.sums n 0 (omega arith) (omega arith))
-
-pub sums_put : (words : List ℕ) (at k : ℕ) (v : Aggregate) (sums : List ℕ) → at + 8 ≤ length words → length v.sums ≡ 8 → k ≡ 8 → sums ≡ v.sums
-    → put_mid at k words sums ≡ with_sums words at v 8
-sums_put words at k v sums room long e same =
-    put_mid-paste at k words sums v.sums 8 same (sym e) (sym long) ∙ sym (sums_copied words at v 8 room (omega arith))
 
 -- an aggregate written
 module _ (words : List ℕ) (at : ℕ) (v : Aggregate) where

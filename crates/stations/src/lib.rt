@@ -92,8 +92,8 @@ pub fn config_in(words: &[u64; 705]) -> Config
 fn config_word(w: u64, t: Config) -> u64
     ensures { result ≡ Words.config_word w t }
 {
-    let [_, _, _, _, a, b, c, d] = w.to_le_bytes();
-    u64::from_le_bytes([t.k, t.classes, t.desk, t.way, a, b, c, d])
+    w / 0x1_0000_0000 * 0x1_0000_0000
+        + u64::from(u32::from_le_bytes([t.k, t.classes, t.desk, t.way]))
 }
 
 // The words of a net opened with t.
@@ -107,13 +107,15 @@ pub fn put_config(words: &mut [u64; 705], t: Config)
     words[0] = config_word(words[0], t);
 }
 
-#[tactic(auto, using(crate::proofs::Words::words_between), unfolding(crate::specs::Words::sums_in))]
+// A loop: by `copy_from_slice`, here and where an aggregate is stored, a run of stations that meet takes longer than its bar.
 fn load_aggregate(words: &[u64], at: usize) -> Aggregate
     requires { at + 9 ≤ length words.now }
     ensures { result ≡ Words.aggregate_from words.now at }
 {
     let mut sums = [0u64; 8];
-    sums.copy_from_slice(&words[at..at + 8]);
+    for j in 0..8 {
+        sums[j] = words[at + j];
+    }
     aggregate::of_words(sums, words[at + 8])
 }
 
@@ -145,13 +147,15 @@ pub fn load(words: &[u64; 705], i: u8) -> Station
     }
 }
 
-#[tactic(auto, using(crate::proofs::Words::sums_put))]
+#[tactic(auto, unfolding(crate::specs::Words::with_sums))]
 fn store_aggregate(words: &mut [u64], at: usize, v: Aggregate)
     requires { at + 9 ≤ length words.old }
     ensures words { words.new ≡ Words.with_aggregate words.old at v }
     ensures fits { FitsHeld v }
 {
-    words[at..at + 8].copy_from_slice(&v.sums);
+    for j in 0..8 {
+        words[at + j] = v.sums[j];
+    }
     words[at + 8] = aggregate::missing_word(v);
 }
 
@@ -159,8 +163,7 @@ fn store_aggregate(words: &mut [u64], at: usize, v: Aggregate)
 fn fields_word(w: u64, s: Station) -> u64
     ensures { result ≡ Words.fields_word w s }
 {
-    let [_, _, _, a, b, c, d, e] = w.to_le_bytes();
-    u64::from_le_bytes([s.parent, s.waits, s.state, a, b, c, d, e])
+    w / 0x100_0000 * 0x100_0000 + u64::from(u32::from_le_bytes([s.parent, s.waits, s.state, 0]))
 }
 
 #[tactic(auto, unfolding(crate::specs::Words::with_station))]
@@ -240,14 +243,5 @@ pub fn are_well_formed(words: &[u64; 705]) -> bool
     ensures { result ≡ Rules.are_well_formed (Words.config_in words.now) (Words.stations_in words.now) }
 {
     let t = config_in(words);
-    if !aggregate::is_valid(t) {
-        return false;
-    }
-    for i in 0..t.k {
-        let s = load(words, i);
-        if !s.is_well_formed(t, i) {
-            return false;
-        }
-    }
-    true
+    aggregate::is_valid(t) && (0..t.k).all(|i| load(words, i).is_well_formed(t, i))
 }
