@@ -4,6 +4,7 @@ use mathlib.Core.Path.{◌≡◌, refl, sym, ap, ◌∙◌}
 use mathlib.Core.Bool.{false, cond}
 use mathlib.Core.List.{List, [], ◌∷◌}
 use Prim.Native.Nat.{ℕ}
+use Rattle.std.specs.Prelude.{⊤, Result, Ok, Err}
 use lib.ListN.{get_or}
 use lib.Dec.{eqb}
 use Rattle.finite.proofs.Cases.{clash}
@@ -11,10 +12,6 @@ use Rattle.topology.specs.Answer.{is_accepted}
 use Rattle.topology.specs.Acceptance.{fault_numbers, verdict_numbers, links_numbers}
 use Rattle.topology.specs.declared.Fault.{Fault}
 use Rattle.topology.specs.declared.Fault.TheVariants.{Classes, Stations, Desk, Beyond, Itself, OneWay, Apart}
-use Rattle.topology.specs.declared.Verdict.{Verdict}
-use Rattle.topology.specs.declared.LinksAnswer.{LinksAnswer}
-use Rattle.topology.specs.declared.Verdict.TheVariants as verdict
-use Rattle.topology.specs.declared.LinksAnswer.TheVariants as links
 
 -- the refusal of a number and its station
 abbrev pub fault_from : List ℕ → Fault
@@ -49,14 +46,14 @@ fault_refuses (Itself i) = refl
 fault_refuses (OneWay i) = refl
 fault_refuses (Apart i) = refl
 
-pub verdict_pins : (a b : Verdict) → verdict_numbers a ≡ verdict_numbers b → a ≡ b
-verdict_pins verdict.Accepted verdict.Accepted e = refl
-verdict_pins verdict.Accepted (verdict.Refused g) e = clash (ap is_accepted (sym e)) (fault_refuses g)
-verdict_pins (verdict.Refused f) verdict.Accepted e = clash (ap is_accepted e) (fault_refuses f)
-verdict_pins (verdict.Refused f) (verdict.Refused g) e = ap verdict.Refused (fault_pins f g e)
+pub verdict_pins : (a b : Result ⊤ Fault) → verdict_numbers a ≡ verdict_numbers b → a ≡ b
+verdict_pins (Ok a) (Ok b) e = refl
+verdict_pins (Ok done) (Err g) e = clash (ap is_accepted (sym e)) (fault_refuses g)
+verdict_pins (Err f) (Ok done) e = clash (ap is_accepted e) (fault_refuses f)
+verdict_pins (Err f) (Err g) e = ap Err (fault_pins f g e)
 
-pub links_pins : (a b : LinksAnswer) → links_numbers a ≡ links_numbers b → a ≡ b
-links_pins (links.Counted m) (links.Counted n) e = ap (λ (l : List ℕ). links.Counted (get_or l 1 0)) e
-links_pins (links.Counted m) (links.Refused g) e = clash (ap is_accepted (sym e)) (fault_refuses g)
-links_pins (links.Refused f) (links.Counted n) e = clash (ap is_accepted e) (fault_refuses f)
-links_pins (links.Refused f) (links.Refused g) e = ap links.Refused (fault_pins f g e)
+pub links_pins : (a b : Result ℕ Fault) → links_numbers a ≡ links_numbers b → a ≡ b
+links_pins (Ok m) (Ok n) e = ap (λ (l : List ℕ). Ok (get_or l 1 0)) e
+links_pins (Ok m) (Err g) e = clash (ap is_accepted (sym e)) (fault_refuses g)
+links_pins (Err f) (Ok n) e = clash (ap is_accepted e) (fault_refuses f)
+links_pins (Err f) (Err g) e = ap Err (fault_pins f g e)

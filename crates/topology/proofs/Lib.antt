@@ -1,5 +1,6 @@
 pub mod Answers
 pub mod Searches
+pub mod Judging
 pub mod Chains
 pub mod Sets
 pub mod Transposition

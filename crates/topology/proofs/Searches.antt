@@ -69,11 +69,3 @@ lowest-none k p far i l = first-none p k 0 (omega arith) i (omega arith) (omega 
 
 pub none-lowest : (k : ℕ) (p : ℕ → Bool) → ((i : ℕ) → i < k → p i ≡ false) → k ≤ lowest k p
 none-lowest k p none = omega (arith, past_end p k 0 (λ x low high. none x (omega arith)))
-
-first_ext : (p q : ℕ → Bool) (n i : ℕ) → ((x : ℕ) → x < i + n → p x ≡ q x) → first_from p i n ≡ first_from q i n
-unfolding first_from
-first_ext p q zero i same = refl
-first_ext p q (suc n) i same = rw (same i (omega arith), first_ext p q n (suc i) (λ x l. same x (omega arith)))
-
-pub lowest_ext : (k : ℕ) (p q : ℕ → Bool) → ((i : ℕ) → i < k → p i ≡ q i) → lowest k p ≡ lowest k q
-lowest_ext k p q same = first_ext p q k 0 (λ x l. same x (omega arith))

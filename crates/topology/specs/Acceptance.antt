@@ -1,16 +1,12 @@
 -- When a line map is accepted (document 01, "The line map", third paragraph). `sets` are the neighbours of the k stations; the root
 -- (01: the desk) is any station.
-use Rattle.std.specs.Prelude.{Bool, false, not, ◌&&◌, ◌||◌, cond, List, [], ◌∷◌, ℕ, zero, suc, get_or, eqb, ltb, leb}
+use Rattle.std.specs.Prelude.{Bool, false, not, ◌&&◌, ◌||◌, cond, List, [], ◌∷◌, ℕ, zero, suc, get_or, eqb, ltb, leb, ⊤, Result, Ok, Err}
 use Rattle.finite.specs.Links.{links}
 use Rattle.bitset.specs.Set.{is_station_count, member, within}
 use Rattle.topology.specs.Answer.{accepted, is_accepted}
 use Rattle.finite.specs.Tests.{unless}
 use Rattle.topology.specs.declared.Fault.{Fault}
 use Rattle.topology.specs.declared.Fault.TheVariants.{Classes, Stations, Desk, Beyond, Itself, OneWay, Apart}
-use Rattle.topology.specs.declared.Verdict.{Verdict}
-use Rattle.topology.specs.declared.LinksAnswer.{LinksAnswer}
-use Rattle.topology.specs.declared.Verdict.TheVariants as verdict
-use Rattle.topology.specs.declared.LinksAnswer.TheVariants as answer
 
 -- "Causes and numbers": the number of each refusal, with the station where one is returned; "A map handed over with c not 1 to 8 gets 2"
 -- (document 02, request 2), "19 when the desk is not below k" (request 5). `verdict_pins` and `links_pins` (proofs/Answers) say that the
@@ -25,14 +21,14 @@ fault_numbers (OneWay i) = 9 ∷ i ∷ []
 fault_numbers (Apart i) = 10 ∷ i ∷ []
 
 -- 0 where the map is accepted
-abbrev pub verdict_numbers : Verdict → List ℕ
-verdict_numbers verdict.Accepted = accepted
-verdict_numbers (verdict.Refused fault) = fault_numbers fault
+abbrev pub verdict_numbers : Result ⊤ Fault → List ℕ
+verdict_numbers (Ok done) = accepted
+verdict_numbers (Err fault) = fault_numbers fault
 
 -- 0 with m where the map is accepted
-abbrev pub links_numbers : LinksAnswer → List ℕ
-links_numbers (answer.Counted m) = 0 ∷ m ∷ []
-links_numbers (answer.Refused fault) = fault_numbers fault
+abbrev pub links_numbers : Result ℕ Fault → List ℕ
+links_numbers (Ok m) = 0 ∷ m ∷ []
+links_numbers (Err fault) = fault_numbers fault
 
 -- "a set of neighbours": station i has a link to j
 abbrev pub linked : ℕ → List ℕ → ℕ → ℕ → Bool
@@ -91,4 +87,4 @@ verdict_of root k sets =
 -- "A link is an unordered pair; m counts them": m of an accepted map
 unfoldable pub links_of : ℕ → ℕ → List ℕ → List ℕ
 links_of root k sets =
-    unless (is_accepted (verdict_of root k sets)) (verdict_of root k sets) (links_numbers (answer.Counted (links k (linked k sets))))
+    unless (is_accepted (verdict_of root k sets)) (verdict_of root k sets) (links_numbers (Ok (links k (linked k sets))))

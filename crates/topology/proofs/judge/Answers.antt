@@ -1,37 +1,28 @@
--- `topology::judge` meets its contract: at each place, what is left of the verdict. A rule refuses at its lowest offender, or
--- leaves the rules after it. Assumes nothing.
+-- `topology::judge` meets its contract: a rule that is broken refuses, and one that is kept leaves the rules after it. Assumes nothing.
 use mathlib.Core.Path.{◌≡◌, sym, ap, ◌∙◌}
 use mathlib.Core.Bool.{true, not}
 use mathlib.Core.List.{List}
 use Prim.Native.Nat.{ℕ, ◌≤◌, ◌<◌}
 use lib.ListN.{get_or}
-use lib.Dec.{ltb, leb}
-use borrow.Author.Tests.{lt-ltb, lt-leb, le-leb, leb-true, not-false}
+use lib.Dec.{eqb, ltb, leb}
+use lib.Bits.{bit_and}
+use borrow.Author.Tests.{lt-ltb, leb-true, not-false}
+use Rattle.std.proofs.Common.{of_calls}
+use Rattle.std.proofs.lemmas.Result.{err_from_is_err_and}
 use Rattle.finite.proofs.Cases.{and_both}
 use Rattle.topology.specs.Answer.{accepted}
-use Rattle.finite.specs.Tests.{unless}
-use Rattle.topology.specs.Acceptance.{fault_numbers, linked, near, names_beyond, names_itself, names_one_sided, is_apart, lowest, over_all, verdict_of}
-use Rattle.topology.specs.Internal.Parts.{breaks}
-use Rattle.topology.specs.declared.Fault.{Fault}
+use Rattle.topology.specs.Acceptance.{linked, near, names_beyond, names_itself, names_one_sided, is_apart, lowest, over_all, verdict_of}
+use Rattle.topology.specs.Internal.Parts.{judged_all}
 use Rattle.topology.specs.declared.Fault.TheVariants.{Beyond, Itself, OneWay, Apart}
-use Rattle.topology.specs.declared.Rule.TheVariants as rule
-use Rattle.topology.proofs.Searches.{lowest-none, lowest_ext}
+use Rattle.topology.proofs.Searches.{lowest-none}
 use Rattle.topology.proofs.Sets.{one_sided_transposed}
+use Rattle.topology.proofs.Judging.{refused, passed, last}
 use Rattle.bitset.specs.Set.{member, within, is_station_count}
 use Rattle.bitset.proofs.Selected.{set-member}
 use Rattle.topology.proofs.judge.Goals as goal
-use Rattle.topology.proofs.judge.Goals.{
-  After-find_lowest-beyond,
-  Else-beyond-k,
-  After-find_lowest-itself,
-  After-find_lowest-one_way,
-  After-find_lowest-apart,
-}
+use Rattle.topology.proofs.judge.Goals.{In_ok-over_all, In_ok-over_all-2, After-over_all-3}
 
--- what is left of the verdict, from the last rule to the first; a rule is given by its lowest offender
-abbrev rule_at : ℕ → ℕ → (ℕ → Fault) → List ℕ → List ℕ
-rule_at k i fault rest = unless (leb k i) (fault_numbers (fault i)) rest
-
+-- the rules after the third, after the second and after the first
 abbrev chains : ℕ → ℕ → List ℕ → List ℕ
 chains root k sets = over_all k (is_apart root k sets) Apart accepted
 
@@ -41,115 +32,89 @@ mutuals root k sets = over_all k (names_one_sided k sets) OneWay (chains root k 
 abbrev others : ℕ → ℕ → List ℕ → List ℕ
 others root k sets = over_all k (names_itself sets) Itself (mutuals root k sets)
 
-abbrev names : ℕ → ℕ → List ℕ → List ℕ
-names root k sets = over_all k (names_beyond k sets) Beyond (others root k sets)
-
-abbrev Left : ℕ → ℕ → List ℕ → (ℕ → ℕ → List ℕ → List ℕ) → Type 0
-Left root k sets rest = verdict_of root k sets ≡ rest root k sets
-
 few : (k : ℕ) → is_station_count k ≡ true → k ≤ 64
 few k e = leb-true k 64 (and_both (ltb 0 k) (leb k 64) e).1
 
-counted : (root k : ℕ) (sets : List ℕ) → is_station_count k ≡ true → root < k → Left root k sets names
+counted : (root k : ℕ) (sets : List ℕ) → is_station_count k ≡ true → root < k
+    → verdict_of root k sets ≡ over_all k (names_beyond k sets) Beyond (others root k sets)
 unfolding verdict_of
 counted root k sets e l = rw (e, lt-ltb root k l)
 
-beyond : (c : After-find_lowest-beyond)
-    → let a = c.args in Left a.root a.k a.sets.now (λ root k sets. rule_at k c.find_lowest-beyond.result Beyond (others root k sets))
-beyond c =
+-- what a rule that is kept leaves of the verdict
+after_beyond : (c : In_ok-over_all)
+    → let a = c.args in (a.k ≤ lowest a.k (names_beyond a.k a.sets.now)) × (verdict_of a.root a.k a.sets.now ≡ others a.root a.k a.sets.now)
+after_beyond c =
     let a = c.args in
-    rw c.find_lowest-beyond.ensures (counted a.root a.k a.sets.now c.requires.0 c.requires.1)
+    let told = c.over_all.ensures (names_beyond a.k a.sets.now) Beyond (λ i b l post. search of_calls) (λ i f l post. post) in
+    let kept = passed a.k _ Beyond _ told (others a.root a.k a.sets.now) _ c.in_ok-over_all.was in
+    (kept.0, counted a.root a.k a.sets.now c.requires.0 c.requires.1 ∙ kept.1)
 
--- each set is of stations below k from there on
-inside : (c : Else-beyond-k) (i : ℕ) → let a = c.args in i < a.k → within a.k (get_or a.sets.now i 0) ≡ true
-inside c i l =
+after_itself : (c : In_ok-over_all-2)
+    → let a = c.args in
+    verdict_of a.root a.k a.sets.now ≡ others a.root a.k a.sets.now → verdict_of a.root a.k a.sets.now ≡ mutuals a.root a.k a.sets.now
+after_itself c left =
     let a = c.args in
-    not-false _ (lowest-none a.k (names_beyond a.k a.sets.now) (rw c.find_lowest-beyond.ensures at c.if-beyond-k.false) i l)
+    let told = c.over_all-2.ensures (names_itself a.sets.now) Itself (λ i b l post. search of_calls) (λ i f l post. post) in
+    left ∙ (passed a.k _ Itself _ told (mutuals a.root a.k a.sets.now) _ c.in_ok-over_all-2.was).1
 
--- from the second rule on: where the rule before it left its part of the verdict
-itself : (c : After-find_lowest-itself)
+-- the third rule is tested by the namers: each set is of stations below k there
+one_way : (c : After-over_all-3)
     → let a = c.args in
-    Left a.root a.k a.sets.now (λ root k sets. rule_at k c.find_lowest-beyond.result Beyond (others root k sets))
-    → Left a.root a.k a.sets.now (λ root k sets. rule_at k c.find_lowest-itself.result Itself (mutuals root k sets))
-itself c left = rw c.find_lowest-itself.ensures (rw (le-leb _ _ c.if-beyond-k.false) at left)
+    a.k ≤ lowest a.k (names_beyond a.k a.sets.now)
+    → c.over_all-3.result ≡ judged_all a.k (names_one_sided a.k a.sets.now) OneWay
+one_way c below =
+    let a = c.args in
+    let inside : (i : ℕ) → i < a.k → within a.k (get_or a.sets.now i 0) ≡ true =
+    λ i l. not-false _ (lowest-none a.k (names_beyond a.k a.sets.now) below i l) in
+    let namers = a.namers.now in
+    c.over_all-3.ensures (names_one_sided a.k a.sets.now) OneWay
+    (λ i b l post.
+    let tested : b ≡ not (eqb (bit_and (get_or a.sets.now i 0) (get_or namers i 0)) (get_or a.sets.now i 0)) = search of_calls in
+    tested ∙ one_sided_transposed a.k a.sets.now namers i (few a.k c.requires.0) l c.requires.2 (inside i l))
+    (λ i f l post. post)
 
--- the third rule is tested by the namers
-one_way : (c : After-find_lowest-one_way)
-    → let a = c.args in
-    ((i : ℕ) → i < a.k → within a.k (get_or a.sets.now i 0) ≡ true)
-    → Left a.root a.k a.sets.now (λ root k sets. rule_at k c.find_lowest-itself.result Itself (mutuals root k sets))
-    → Left a.root a.k a.sets.now (λ root k sets. rule_at k c.find_lowest-one_way.result OneWay (chains root k sets))
-one_way c within_k left =
-    let k = c.args.k in
-    let sets = c.args.sets.now in
-    let namers = c.args.namers.now in
-    let found : c.find_lowest-one_way.result ≡ lowest k (breaks rule.OneWay k sets namers) = c.find_lowest-one_way.ensures in
-    let all = few k c.requires.0 in
-    let same = found ∙ lowest_ext k _ _ (λ i l. one_sided_transposed k sets namers i all l c.requires.2 (within_k i l)) in
-    rw same (rw (le-leb _ _ c.if-itself-k.false) at left)
+pub returns-in_err-over_all : goal.returns-in_err-over_all
+returns-in_err-over_all c =
+    let a = c.args in
+    let p = err_from_is_err_and c.from_residual.result c.from_residual.ensures.1 in
+    let told = c.over_all.ensures (names_beyond a.k a.sets.now) Beyond (λ i b l post. search of_calls) (λ i f l post. post) in
+    rw (p.1, p.2)
+    (sym (counted a.root a.k a.sets.now c.requires.0 c.requires.1 ∙ refused a.k _ Beyond _ told (others a.root a.k a.sets.now) _ c.in_err-over_all.was))
+
+pub returns-in_err-over_all-2 : goal.returns-in_err-over_all-2
+returns-in_err-over_all-2 c =
+    let a = c.args in
+    let here = goal.at.returns-in_err-over_all-2 c in
+    let p = err_from_is_err_and c.from_residual-in_err-over_all-2.result c.from_residual-in_err-over_all-2.ensures.1 in
+    let told = c.over_all-2.ensures (names_itself a.sets.now) Itself (λ i b l post. search of_calls) (λ i f l post. post) in
+    let left = after_beyond here.In_ok-over_all in
+    rw (p.1, p.2)
+    (sym (left.1 ∙ refused a.k _ Itself _ told (mutuals a.root a.k a.sets.now) _ c.in_err-over_all-2.was))
+
+pub returns-in_err-over_all-3 : goal.returns-in_err-over_all-3
+returns-in_err-over_all-3 c =
+    let a = c.args in
+    let here = goal.at.returns-in_err-over_all-3 c in
+    let p = err_from_is_err_and c.from_residual-in_err-over_all-3.result c.from_residual-in_err-over_all-3.ensures.1 in
+    let first = after_beyond here.In_ok-over_all in
+    let told = one_way here.After-over_all-3 first.0 in
+    let left = after_itself here.In_ok-over_all-2 first.1 in
+    rw (p.1, p.2)
+    (sym (left ∙ refused a.k _ OneWay _ told (chains a.root a.k a.sets.now) _ c.in_err-over_all-3.was))
 
 -- the last rule is tested by the set that was reached
-apart : (c : After-find_lowest-apart)
-    → let a = c.args in
-    Left a.root a.k a.sets.now (λ root k sets. rule_at k c.find_lowest-one_way.result OneWay (chains root k sets))
-    → Left a.root a.k a.sets.now (λ root k sets. rule_at k c.find_lowest-apart.result Apart accepted)
-apart c left =
-    let root = c.args.root in
-    let k = c.args.k in
-    let sets = c.args.sets.now in
-    let found : c.find_lowest-apart.result ≡ lowest k (λ i. not (member i c.reach-reached.result)) = c.find_lowest-apart.ensures in
-    let same = found
-    ∙ ap (λ (reached : ℕ). lowest k (λ i. not (member i reached))) c.reach-reached.ensures
-    ∙ lowest_ext k _ _ (λ i l. ap not (set-member k (near (linked k sets) root k k) i l)) in
-    rw same (rw (le-leb _ _ c.if-one_way-k.false) at left)
-
-pub find_lowest-beyond-requires : goal.find_lowest-beyond-requires
-find_lowest-beyond-requires c = few c.args.k c.requires.0
-
-pub returns-then-beyond-k : goal.returns-then-beyond-k
-returns-then-beyond-k c = sym (rw (lt-leb _ _ c.if-beyond-k.true) at (beyond (goal.at.returns-then-beyond-k c).After-find_lowest-beyond))
-
-pub find_lowest-itself-requires : goal.find_lowest-itself-requires
-find_lowest-itself-requires c = few c.args.k c.requires.0
-
-pub returns-then-itself-k : goal.returns-then-itself-k
-returns-then-itself-k c =
-    let here = goal.at.returns-then-itself-k c in
-    let first = beyond here.After-find_lowest-beyond in
-    let second = itself here.After-find_lowest-itself first in
-    sym (rw (lt-leb _ _ c.if-itself-k.true) at second)
-
-pub find_lowest-one_way-requires : goal.find_lowest-one_way-requires
-find_lowest-one_way-requires c = few c.args.k c.requires.0
-
-pub returns-then-one_way-k : goal.returns-then-one_way-k
-returns-then-one_way-k c =
-    let here = goal.at.returns-then-one_way-k c in
-    let first = beyond here.After-find_lowest-beyond in
-    let second = itself here.After-find_lowest-itself first in
-    let third = one_way here.After-find_lowest-one_way (inside here.Else-beyond-k) second in
-    sym (rw (lt-leb _ _ c.if-one_way-k.true) at third)
-
-pub reach-reached-requires : goal.reach-reached-requires
-reach-reached-requires c = few c.args.k c.requires.0
-
-pub find_lowest-apart-requires : goal.find_lowest-apart-requires
-find_lowest-apart-requires c = few c.args.k c.requires.0
-
-pub returns-then-apart-k : goal.returns-then-apart-k
-returns-then-apart-k c =
-    let here = goal.at.returns-then-apart-k c in
-    let first = beyond here.After-find_lowest-beyond in
-    let second = itself here.After-find_lowest-itself first in
-    let third = one_way here.After-find_lowest-one_way (inside here.Else-beyond-k) second in
-    let fourth = apart here.After-find_lowest-apart third in
-    sym (rw (lt-leb _ _ c.if-apart-k.true) at fourth)
-
 pub returns : goal.returns
 returns c =
+    let a = c.args in
     let here = goal.at.returns c in
-    let first = beyond here.After-find_lowest-beyond in
-    let second = itself here.After-find_lowest-itself first in
-    let third = one_way here.After-find_lowest-one_way (inside here.Else-beyond-k) second in
-    let fourth = apart here.After-find_lowest-apart third in
-    sym (rw (le-leb _ _ c.if-apart-k.false) at fourth)
+    let first = after_beyond here.In_ok-over_all in
+    let told = one_way here.After-over_all-3 first.0 in
+    let left = after_itself here.In_ok-over_all-2 first.1 in
+    let reached = c.over_all-4.ensures (is_apart a.root a.k a.sets.now) Apart
+    (λ i b l post.
+    let tested : b ≡ not (member i c.reach-reached.result) = search of_calls in
+    tested
+    ∙ ap (λ (s : ℕ). not (member i s)) c.reach-reached.ensures
+    ∙ ap not (set-member a.k (near (linked a.k a.sets.now) a.root a.k a.k) i l))
+    (λ i f l post. post) in
+    last a.k _ Apart _ reached ∙ sym (left ∙ (passed a.k _ OneWay _ told (chains a.root a.k a.sets.now) _ c.in_ok-over_all-3.was).1)

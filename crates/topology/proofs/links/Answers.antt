@@ -3,27 +3,28 @@
 use mathlib.Core.Path.{◌≡◌, sym, ap, ◌∙◌}
 use mathlib.Core.Bool.{true}
 use Prim.Native.Nat.{ℕ}
+use Rattle.std.specs.Prelude.{Ok}
+use Rattle.std.proofs.lemmas.Result.{err_from_is_err_and}
 use Rattle.topology.specs.Answer.{is_accepted}
-use Rattle.topology.specs.Acceptance.{fault_numbers, verdict_numbers, links_numbers, verdict_of, links_of}
-use Rattle.topology.specs.declared.LinksAnswer.TheVariants.{Counted}
+use Rattle.topology.specs.Acceptance.{fault_numbers, links_numbers, verdict_of, links_of}
 use Rattle.topology.proofs.Answers.{fault_refuses}
 use Rattle.topology.proofs.Webs.{accepted_web}
 use Rattle.topology.proofs.links.Goals as goal
-use Rattle.topology.proofs.links.Goals.{In_default}
+use Rattle.topology.proofs.links.Goals.{In_ok-accept}
 
-is_accepted_lem : (c : In_default) → let a = c.args in is_accepted (verdict_of a.root a.k a.sets.now) ≡ true
-is_accepted_lem c = ap is_accepted (sym c.accept-verdict.ensures ∙ ap verdict_numbers c.in_default.is)
+is_accepted_lem : (c : In_ok-accept) → let a = c.args in is_accepted (verdict_of a.root a.k a.sets.now) ≡ true
+is_accepted_lem c = ap is_accepted (sym c.in_ok-accept.ensures)
 
-pub returns-in-Refused : goal.returns-in-Refused
+pub returns-in_err-accept : goal.returns-in_err-accept
 unfolding links_of
-returns-in-Refused c =
-    let given = c.in-Refused in
-    let told : fault_numbers given.fault ≡ _ = ap verdict_numbers (sym given.is) ∙ c.accept-verdict.ensures in
-    rw (ap is_accepted (sym told) ∙ fault_refuses given.fault) told
+returns-in_err-accept c =
+    let p = err_from_is_err_and c.from_residual.result c.from_residual.ensures.1 in
+    let told : fault_numbers c.in_err-accept.field-0.0 ≡ _ = c.in_err-accept.ensures in
+    rw (p.1, p.2, ap is_accepted (sym told) ∙ fault_refuses c.in_err-accept.field-0.0) told
 
 pub count_links-requires : goal.count_links-requires
-count_links-requires c = (accepted_web _ _ _ (is_accepted_lem (goal.at.count_links-requires c).In_default)).few_stations
+count_links-requires c = (accepted_web _ _ _ (is_accepted_lem (goal.at.count_links-requires c).In_ok-accept)).few_stations
 
 pub returns : goal.returns
 unfolding links_of
-returns c = rw (is_accepted_lem (goal.at.returns c).In_default) (ap (λ (m : ℕ). links_numbers (Counted m)) c.count_links.ensures)
+returns c = rw (is_accepted_lem (goal.at.returns c).In_ok-accept) (ap (λ (m : ℕ). links_numbers (Ok m)) c.count_links.ensures)

@@ -1,13 +1,9 @@
 -- `topology::reach` meets its contract. Invariant: the set of the stations that fewer than t links join to the root; a round that
 -- leaves it as it is leaves it to the end. Assumes nothing.
 use mathlib.Core.Path.{◌≡◌}
-use Prim.Native.Nat.{◌≤◌, ◌-◌}
 use Rattle.topology.specs.Acceptance.{linked, near}
 use Rattle.bitset.specs.Internal.Selected.{set_of}
 use Rattle.topology.proofs.reach.Given as goal
 
-abbrev pub invariant-loop-t : goal.invariant-loop-t
-invariant-loop-t l = (l.t ≤ l.k) × (l.reached ≡ set_of l.k (near (linked l.k l.sets) l.root l.k l.t))
-
-abbrev pub decreases-loop-t : goal.decreases-loop-t
-decreases-loop-t l = l.k - l.t
+abbrev pub invariant-loop : goal.invariant-loop
+invariant-loop l = l.reached ≡ set_of l.k (near (linked l.k l.sets) l.root l.k l.counter)

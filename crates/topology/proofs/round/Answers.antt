@@ -19,35 +19,15 @@ next : (c : goal.After-bit_if-out)
     → let at = c.loop-i in
     (at.out + c.bit_if-out.result ≡ set_of (at.i + 1) (test c)) × (at.out + c.bit_if-out.result < 2 ^ 64)
 next c =
-    set_next (test c) c.loop-i.i (omega arith) c.loop-i.invariant.1
+    set_next (test c) c.loop-i.i (omega arith) c.loop-i.invariant
     (c.bit_if-out.ensures ∙ ap (λ (b : Bool). bit_if b c.loop-i.i) c.is_near-near.ensures)
 
 pub loop-i-init : goal.loop-i-init
 unfolding set_of
-loop-i-init c = (omega arith, refl)
-
-pub overflow_cast-i : goal.overflow_cast-i
-overflow_cast-i c = omega arith
-
-pub offset_bounds-sets-i : goal.offset_bounds-sets-i
-offset_bounds-sets-i c = omega arith
-
-pub bounds-sets-i : goal.bounds-sets-i
-bounds-sets-i c = omega arith
+loop-i-init c = refl
 
 pub overflow_add-out : goal.overflow_add-out
 overflow_add-out c = omega (arith, (next c).1)
 
-pub overflow_add-i : goal.overflow_add-i
-overflow_add-i c = omega arith
-
-pub loop-i-smaller : goal.loop-i-smaller
-loop-i-smaller c = omega arith
-
 pub loop-i-preserved : goal.loop-i-preserved
-loop-i-preserved c = (omega arith, (next c).0)
-
-pub returns : goal.returns
-returns c =
-    let all : c.loop-i.i ≡ c.args.k = omega arith in
-    rw all at c.loop-i.invariant.1
+loop-i-preserved c = (next c).0

@@ -1,20 +1,17 @@
 -- What the parts of the code compute.
-use Rattle.std.specs.Prelude.{Bool, not, ◌||◌, List, ℕ, get_or, eqb}
+use Rattle.std.specs.Prelude.{Bool, not, ◌||◌, List, ℕ, get_or, eqb, leb, ⊤, Result, Ok, Err}
+use Rattle.finite.specs.Tests.{unless}
 use Rattle.std.specs.Int.Bits.{bit_and}
 use Rattle.finite.specs.Sum.{indicator}
 use Rattle.finite.specs.Internal.Monoid.{addition, sum_to}
 use Rattle.bitset.specs.Set.{member}
 use Rattle.bitset.specs.Internal.Selected.{set_of}
-use Rattle.topology.specs.Acceptance.{linked, near, names_beyond, names_itself}
-use Rattle.topology.specs.declared.Rule.{Rule}
-use Rattle.topology.specs.declared.Rule.TheVariants as rule
+use Rattle.topology.specs.Acceptance.{linked, near, lowest}
+use Rattle.topology.specs.declared.Fault.{Fault}
 
--- the rules, the third by the sets of those who name each station, the last by the set of the stations that a chain joins to the root
-abbrev pub breaks : Rule → ℕ → List ℕ → List ℕ → ℕ → Bool
-breaks rule.Beyond k sets namers i = names_beyond k sets i
-breaks rule.Itself k sets namers i = names_itself sets i
-breaks rule.OneWay k sets namers i = not (eqb (bit_and (get_or sets i 0) (get_or namers i 0)) (get_or sets i 0))
-breaks (rule.Apart reached) k sets namers i = not (member i reached)
+-- a rule over all stations: the cause, from the lowest that breaks it
+abbrev pub judged_all : ℕ → (ℕ → Bool) → (ℕ → Fault) → Result ⊤ Fault
+judged_all k breaks cause = unless (leb k (lowest k breaks)) (Err (cause (lowest k breaks))) (Ok tt)
 
 -- station i is the root, or its set has a member that is reached
 abbrev pub near_by : ℕ → ℕ → ℕ → ℕ → Bool
