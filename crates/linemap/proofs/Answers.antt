@@ -1,27 +1,21 @@
 -- The numbers tell the answers apart, so a contract on the numbers pins the answer: a refusal is read back from its numbers.
 -- Assumes nothing.
-use Rattle.std.proofs.Common.{◌≡◌, ℕ, false, cond, eqb, List, [], ◌∷◌, get_or, sym, refl, ap, ◌∙◌, ap₂}
+use Rattle.std.proofs.Common.{◌≡◌, ℕ, false, cond, eqb, List, [], ◌∷◌, get_or, Result, Ok, Err, sym, refl, ap, ◌∙◌}
+use Rattle.std.specs.Prelude.{⊤}
 use Rattle.finite.proofs.Cases.{clash}
 use Rattle.topology.specs.Answer.{is_accepted}
 use Rattle.topology.specs.declared.Fault.TheVariants.{Classes, Stations, Desk, Beyond, Itself, OneWay, Apart}
 use Rattle.topology.proofs.Answers.{fault_from, fault_refuses}
-use Rattle.linemap.specs.Reading.{read_fault_numbers, read_numbers, ReadOutcome, read_outcome_of}
+use Rattle.linemap.specs.Reading.{read_fault_numbers, ReadOutcome, read_outcome_of}
 use Rattle.linemap.specs.Writing.{write_fault_numbers, write_numbers}
 use Rattle.linemap.specs.Openings.{fresh_fault_numbers, fresh_numbers}
 use Rattle.linemap.specs.declared.Map.{Map}
-use Rattle.linemap.specs.declared.MapRead.{MapRead}
 use Rattle.linemap.specs.declared.ReadFault.{ReadFault}
-use Rattle.linemap.specs.declared.ReadAnswer.{ReadAnswer}
-use Rattle.linemap.specs.declared.ReadAnswer.TheVariants.{Accepted, Refused}
 use Rattle.linemap.specs.declared.WriteFault.{WriteFault}
-use Rattle.linemap.specs.declared.WriteAnswer.{WriteAnswer}
 use Rattle.linemap.specs.declared.FreshFault.{FreshFault}
-use Rattle.linemap.specs.declared.FreshAnswer.{FreshAnswer}
 use Rattle.linemap.specs.declared.ReadFault.TheVariants as read
 use Rattle.linemap.specs.declared.WriteFault.TheVariants as write
-use Rattle.linemap.specs.declared.WriteAnswer.TheVariants as written
 use Rattle.linemap.specs.declared.FreshFault.TheVariants as opening
-use Rattle.linemap.specs.declared.FreshAnswer.TheVariants as opened
 
 -- the refusal of a reading, and of a writing, by its number and values
 abbrev read_fault_from : List ℕ → ReadFault
@@ -93,26 +87,24 @@ pub fresh_fault_refuses : (f : FreshFault) → is_accepted (fresh_fault_numbers 
 fresh_fault_refuses opening.Way = refl
 fresh_fault_refuses (opening.Unfit fault) = fault_refuses fault
 
-answer_pins : (a b : ReadAnswer) → read_numbers a ≡ read_numbers b → a ≡ b
-answer_pins Accepted Accepted e = refl
-answer_pins Accepted (Refused g) e = clash (ap is_accepted (sym e)) (read_fault_refuses g)
-answer_pins (Refused f) Accepted e = clash (ap is_accepted e) (read_fault_refuses f)
-answer_pins (Refused f) (Refused g) e = ap Refused (sym (read_again f) ∙ ap read_fault_from e ∙ read_again g)
+-- the numbers that an outcome gives
+abbrev numbers_of : ReadOutcome → List ℕ
+numbers_of o = o.numbers
 
-pub read_pins : (a b : MapRead) → read_outcome_of a ≡ read_outcome_of b → a ≡ b
-read_pins a b e =
-    ap₂ (λ (answer : ReadAnswer) (map : Map). record { answer = answer; map = map })
-    (answer_pins a.answer b.answer (ap (λ (o : ReadOutcome). o.numbers) e))
-    (ap (λ (o : ReadOutcome). o.map) e)
+pub read_pins : (a b : Result Map ReadFault) → read_outcome_of a ≡ read_outcome_of b → a ≡ b
+read_pins (Ok m) (Ok n) e = ap (λ (o : ReadOutcome). Ok o.map) e
+read_pins (Ok m) (Err g) e = clash (ap is_accepted (sym (ap numbers_of e))) (read_fault_refuses g)
+read_pins (Err f) (Ok n) e = clash (ap is_accepted (ap numbers_of e)) (read_fault_refuses f)
+read_pins (Err f) (Err g) e = ap Err (sym (read_again f) ∙ ap read_fault_from (ap numbers_of e) ∙ read_again g)
 
-pub write_pins : (a b : WriteAnswer) → write_numbers a ≡ write_numbers b → a ≡ b
-write_pins (written.Written m) (written.Written n) e = ap (λ (l : List ℕ). written.Written (get_or l 1 0)) e
-write_pins (written.Written m) (written.Refused g) e = clash (ap is_accepted (sym e)) (write_fault_refuses g)
-write_pins (written.Refused f) (written.Written n) e = clash (ap is_accepted e) (write_fault_refuses f)
-write_pins (written.Refused f) (written.Refused g) e = ap written.Refused (sym (write_again f) ∙ ap write_fault_from e ∙ write_again g)
+pub write_pins : (a b : Result ℕ WriteFault) → write_numbers a ≡ write_numbers b → a ≡ b
+write_pins (Ok m) (Ok n) e = ap (λ (l : List ℕ). Ok (get_or l 1 0)) e
+write_pins (Ok m) (Err g) e = clash (ap is_accepted (sym e)) (write_fault_refuses g)
+write_pins (Err f) (Ok n) e = clash (ap is_accepted e) (write_fault_refuses f)
+write_pins (Err f) (Err g) e = ap Err (sym (write_again f) ∙ ap write_fault_from e ∙ write_again g)
 
-pub fresh_pins : (a b : FreshAnswer) → fresh_numbers a ≡ fresh_numbers b → a ≡ b
-fresh_pins opened.Opened opened.Opened e = refl
-fresh_pins opened.Opened (opened.Refused g) e = clash (ap is_accepted (sym e)) (fresh_fault_refuses g)
-fresh_pins (opened.Refused f) opened.Opened e = clash (ap is_accepted e) (fresh_fault_refuses f)
-fresh_pins (opened.Refused f) (opened.Refused g) e = ap opened.Refused (sym (fresh_again f) ∙ ap fresh_fault_from e ∙ fresh_again g)
+pub fresh_pins : (a b : Result ⊤ FreshFault) → fresh_numbers a ≡ fresh_numbers b → a ≡ b
+fresh_pins (Ok a) (Ok b) e = refl
+fresh_pins (Ok a) (Err g) e = clash (ap is_accepted (sym e)) (fresh_fault_refuses g)
+fresh_pins (Err f) (Ok b) e = clash (ap is_accepted e) (fresh_fault_refuses f)
+fresh_pins (Err f) (Err g) e = ap Err (sym (fresh_again f) ∙ ap fresh_fault_from e ∙ fresh_again g)

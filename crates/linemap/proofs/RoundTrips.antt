@@ -10,7 +10,7 @@ use Rattle.linemap.specs.RoundTrip.{Equal, cleared_of, RoundTrips}
 use Rattle.linemap.specs.Reading.{read_as, reading}
 use Rattle.linemap.specs.Writing.{write_numbers, writing}
 use Rattle.linemap.specs.declared.Map.{Map}
-use Rattle.linemap.specs.declared.WriteAnswer.TheVariants.{Written}
+use Rattle.std.specs.Prelude.{Ok}
 use Rattle.linemap.proofs.Each.{each_same, column-at, grid-at}
 use Rattle.aggregate.proofs.Laws.{class_count}
 use Rattle.linemap.proofs.Accepted.{map_classes}
@@ -54,7 +54,7 @@ equal_written m n e =
     (equal_bodies m n e) (ap₂ word_count e.classes e.k)
 
 read_writable : (s : List ℕ) (m : Map) → ((i : ℕ) → get_or s i 0 < 2 ^ 8) → reading s ≡ read_as m → (n : ℕ) → length_of m ≤ n
-    → writing m n ≡ write_numbers (Written (length_of m))
+    → writing m n ≡ write_numbers (Ok (length_of m))
 read_writable s m byte e n room = room_enough m n (read_facts s m e).good (read_lot s m byte e) room
 
 pub round_trips : RoundTrips

@@ -1,6 +1,7 @@
 -- Reading and writing rule by rule: what the reader's parts leave of a reading, what is left after 1 to 5, and what an accepted
 -- reading went by; the four ways that writing ends. Assumes nothing.
-use Rattle.std.proofs.Common.{◌≡◌, ℕ, ◌+◌, ◌-◌, ◌*◌, ◌%◌, ◌^◌, ◌<◌, ◌≤◌, Bool, true, false, ◌&&◌, eqb, ltb, leb, ◌⊎◌, List, ◌++◌, length, drop, sym, refl, ap, ◌∙◌, ap₂, ⊎_elim, mul-le-mul_left, arith, ltb-true, le-ltb, lt-ltb, eq-eqb, ne_eqb, eqb-true, le-leb, leb-false, leb-true}
+use Rattle.std.proofs.Common.{◌≡◌, ℕ, ◌+◌, ◌-◌, ◌*◌, ◌%◌, ◌^◌, ◌<◌, ◌≤◌, Bool, true, false, ◌&&◌, eqb, ltb, leb, ◌⊎◌, List, ◌++◌, length, drop, Option, Some, None, Result, Ok, Err, sym, refl, ap, ◌∙◌, ap₂, ⊎_elim, mul-le-mul_left, arith, ltb-true, le-ltb, lt-ltb, eq-eqb, ne_eqb, eqb-true, le-leb, leb-false, leb-true}
+use Rattle.std.specs.Prelude.{⊤}
 use borrow.Author.Tests.{lt-leb}
 use Rattle.finite.proofs.Cases.{clash, and_both}
 use Rattle.topology.specs.Answer.{is_accepted}
@@ -19,17 +20,13 @@ use Rattle.linemap.specs.Stored.{row_length, trailer_length, stored_length, leng
 use Rattle.linemap.specs.Reading.{read_as, ReadOutcome, read_refused, is_row_length, classes_of, map_at, judged, reading}
 use Rattle.linemap.specs.Reading.{stations_in, desk_in, row_length_in, classes_in, distance_in, lot_in, start_in}
 use Rattle.linemap.specs.Writing.{write_fault_numbers, write_numbers, is_storable, writing, written}
-use Rattle.linemap.specs.Internal.Stages.{trailer_of, trailer_answer, row_of, rows_outcome, put}
+use Rattle.linemap.specs.Internal.Stages.{fields_of, trailer_of, trailer_answer, row_of, rows_outcome, put}
 use Rattle.linemap.specs.declared.Map.{Map}
 use Rattle.linemap.specs.declared.ReadFault.{ReadFault}
 use Rattle.linemap.specs.declared.ReadFault.TheVariants.{Short, Distance, Rows, CheckWord, Unfit}
 use Rattle.linemap.specs.declared.WriteFault.TheVariants.{Lot, Buffer}
-use Rattle.linemap.specs.declared.WriteAnswer.TheVariants.{Written}
-use Rattle.linemap.specs.declared.ReadAnswer.{ReadAnswer}
-use Rattle.linemap.specs.declared.ReadAnswer.TheVariants as answer
-use Rattle.linemap.specs.declared.reading.TrailerRead.{TrailerRead}
-use Rattle.linemap.specs.declared.reading.TrailerRead.TheVariants as trailer
-use Rattle.linemap.specs.declared.reading.RowRead.TheVariants as row
+use Rattle.linemap.specs.declared.reading.Trailer.{Trailer}
+use Rattle.linemap.specs.declared.reading.Row.{Row}
 use Rattle.linemap.proofs.Answers.{read_fault_refuses}
 use Rattle.linemap.proofs.Put.{put_front}
 use Rattle.linemap.proofs.StoredForm.{length-stored}
@@ -58,34 +55,34 @@ classes_row c w count is =
 pub row_below : (w i k : ℕ) → i < k → w * i + w ≤ w * k
 row_below w i k h = omega (arith, mul-le-mul_left w h)
 
-row-known : (b : Bool) (at set x y : ℕ) → unless b row.Outside (row.Row at set) ≡ row.Row x y → (b ≡ true) × (x ≡ at) × (y ≡ set)
-row-known true at set x y e = (refl, cc, cc)
-row-known false at set x y e = let never : ◌≡◌ {A = ℕ} 0 1 = cc in absurd (omega arith)
+row-known : (b : Bool) (r x : Row) → unless b None (Some r) ≡ Some x → (b ≡ true) × (x ≡ r)
+row-known true r x e = (refl, cc)
+row-known false r x e = let never : ◌≡◌ {A = ℕ} 0 1 = cc in absurd (omega arith)
 
-row_unknown : (b : Bool) (at set : ℕ) → unless b row.Outside (row.Row at set) ≡ row.Outside → b ≡ false
-row_unknown false at set e = refl
-row_unknown true at set e = let never : ◌≡◌ {A = ℕ} 0 1 = cc in absurd (omega arith)
+row_unknown : (b : Bool) (r : Row) → unless b None (Some r) ≡ None → b ≡ false
+row_unknown false r e = refl
+row_unknown true r e = let never : ◌≡◌ {A = ℕ} 0 1 = cc in absurd (omega arith)
 
 -- a row that was read starts within the bytes, at its place from the end; one that was not starts before them
 module _ (s : List ℕ) (w back : ℕ) where
-  row_within : (at set : ℕ) → row_of s w back ≡ row.Row at set
-      → (back ≤ length s) × (at ≡ length s - back) × (set ≡ number s (length s - back + (w - 8)) 8)
+  row_within : (r : Row) → row_of s w back ≡ Some r
+      → (back ≤ length s) × (r.at ≡ length s - back) × (r.set ≡ number s (length s - back + (w - 8)) 8)
   unfolding row_of
-  row_within at set e =
-      let known = row-known (leb back (length s)) _ _ at set e in
-      (leb-true back (length s) known.0, known.1, known.2)
+  row_within r e =
+      let known = row-known (leb back (length s)) _ r e in
+      (leb-true back (length s) known.0, ap (λ (x : Row). x.at) known.1, ap (λ (x : Row). x.set) known.1)
 
-  pub row_outside : row_of s w back ≡ row.Outside → length s < back
+  pub row_outside : row_of s w back ≡ None → length s < back
   unfolding row_of
-  row_outside e = leb-false back (length s) (row_unknown (leb back (length s)) _ _ e)
+  row_outside e = leb-false back (length s) (row_unknown (leb back (length s)) _ e)
 
 -- row i of k was read: all rows stand within the bytes, since the first of them starts farthest back, and it has its place among them
-pub row_read : (s : List ℕ) (c k i w need at set : ℕ) → i < k → w ≡ row_length c → need ≡ stored_length c k
-    → (i ≡ 0) ⊎ (stored_length c k ≤ length s) → row_of s w (need - w * i) ≡ row.Row at set
+pub row_read : (s : List ℕ) (c k i w need : ℕ) (r : Row) → i < k → w ≡ row_length c → need ≡ stored_length c k
+    → (i ≡ 0) ⊎ (stored_length c k ≤ length s) → row_of s w (need - w * i) ≡ Some r
     → let place = length s - stored_length c k + row_length c * i in
-    (stored_length c k ≤ length s) × (at ≡ place) × (set ≡ number s (place + 4 * c) 8)
-row_read s c k i w need at set more width_is need-is before e =
-    let known = row_within s w (need - w * i) at set e in
+    (stored_length c k ≤ length s) × (r.at ≡ place) × (r.set ≡ number s (place + 4 * c) 8)
+row_read s c k i w need r more width_is need-is before e =
+    let known = row_within s w (need - w * i) r e in
     let same : w * i ≡ row_length c * i = ap (λ (x : ℕ). x * i) width_is in
     let below = row_below (row_length c) i k more in
     let fits : stored_length c k ≤ length s =
@@ -113,48 +110,49 @@ module _ (s : List ℕ) (c k desk lot : ℕ) where
     words_add zero = rw (le-leb need (length s) fits, eq-eqb (sum_words s (length s - need) (word_count c k)) 0 zero)
 
 -- what an answer of 2, 3, 19 and 4 makes of the rest of a reading, and the reading of a trailer that was read
-abbrev pub answered : ReadAnswer → ReadOutcome → ReadOutcome
-answered (answer.Refused fault) rest = read_refused fault
-answered answer.Accepted rest = rest
+abbrev pub answered : Result ⊤ ReadFault → ReadOutcome → ReadOutcome
+answered (Err fault) rest = read_refused fault
+answered (Ok done) rest = rest
 
-abbrev pub ruled : List ℕ → TrailerRead → ReadOutcome
-ruled s trailer.Short = read_refused Short
-ruled s (trailer.Fields k desk row distance lot) = answered (trailer_answer k desk row distance) (rows_outcome s (classes_of row) k desk lot)
+abbrev pub ruled : List ℕ → Option Trailer → ReadOutcome
+ruled s None = read_refused Short
+ruled s (Some t) = answered (trailer_answer t) (rows_outcome s (classes_of t.row_length) t.stations t.desk t.lot)
 
 answered-unless : (row count desk back : Bool) (rest : ReadOutcome)
     → unless row (read_refused (Unfit Classes))
     (unless count (read_refused (Unfit Stations)) (unless desk (read_refused (Unfit Desk)) (unless back (read_refused Distance) rest)))
-    ≡ answered (unless row (answer.Refused (Unfit Classes)) (unless count (answer.Refused (Unfit Stations))
-    (unless desk (answer.Refused (Unfit Desk)) (unless back (answer.Refused Distance) answer.Accepted)))) rest
+    ≡ answered (unless row (Err (Unfit Classes)) (unless count (Err (Unfit Stations))
+    (unless desk (Err (Unfit Desk)) (unless back (Err Distance) (Ok tt))))) rest
 answered-unless false count desk back rest = refl
 answered-unless true false desk back rest = refl
 answered-unless true true false back rest = refl
 answered-unless true true true false rest = refl
 answered-unless true true true true rest = refl
 
-ruled-unless : (long : Bool) (s : List ℕ) (fields : TrailerRead) (rest : ReadOutcome) → rest ≡ ruled s fields
-    → unless long (read_refused Short) rest ≡ ruled s (unless long trailer.Short fields)
-ruled-unless false s fields rest e = refl
-ruled-unless true s fields rest e = e
+ruled-unless : (long : Bool) (s : List ℕ) (t : Trailer) (rest : ReadOutcome) → rest ≡ ruled s (Some t)
+    → unless long (read_refused Short) rest ≡ ruled s (unless long None (Some t))
+ruled-unless false s t rest e = refl
+ruled-unless true s t rest e = e
 
 pub reading-ruled : (s : List ℕ) → reading s ≡ ruled s (trailer_of s)
 unfolding reading trailer_of trailer_answer rows_outcome
 reading-ruled s =
-    ruled-unless (leb trailer_length (length s)) s (trailer.Fields (stations_in s) (desk_in s) (row_length_in s) (distance_in s) (lot_in s)) _
+    ruled-unless (leb trailer_length (length s)) s (fields_of s) _
     (answered-unless (is_row_length (row_length_in s)) (is_station_count (stations_in s)) (ltb (desk_in s) (stations_in s))
     (eqb (distance_in s) (row_length_in s * stations_in s)) _)
 
 -- an accepted trailer has a row length, a number of stations and one of them for the desk
-pub trailer_few : (k desk row distance : ℕ) → trailer_answer k desk row distance ≡ answer.Accepted
-    → (is_row_length row ≡ true) × (0 < k) × (k ≤ 64) × (desk < k)
+pub trailer_few : (t : Trailer) (done : ⊤) → trailer_answer t ≡ Ok done
+    → (is_row_length t.row_length ≡ true) × (0 < t.stations) × (t.stations ≤ 64) × (t.desk < t.stations)
 unfolding trailer_answer
-trailer_few k desk row distance ok =
-    let all = counted (is_row_length row) (is_station_count k) (ltb desk k) (eqb distance (row * k)) ok in
-    (all.0, some-station k all.1, few_stations k all.1, ltb-true desk k all.2)
+trailer_few t done ok =
+    let k = t.stations in
+    let all = counted (is_row_length t.row_length) (is_station_count k) (ltb t.desk k) (eqb t.distance (t.row_length * k)) ok in
+    (all.0, some-station k all.1, few_stations k all.1, ltb-true t.desk k all.2)
   where
     counted : (row count desk back : Bool)
-        → unless row (answer.Refused (Unfit Classes)) (unless count (answer.Refused (Unfit Stations))
-        (unless desk (answer.Refused (Unfit Desk)) (unless back (answer.Refused Distance) answer.Accepted))) ≡ answer.Accepted
+        → unless row (Err (Unfit Classes)) (unless count (Err (Unfit Stations))
+        (unless desk (Err (Unfit Desk)) (unless back (Err Distance) (Ok tt)))) ≡ Ok done
         → (row ≡ true) × (count ≡ true) × (desk ≡ true)
     counted true true true back e = (refl, refl, refl)
     counted true true false back e = let never : ◌≡◌ {A = ℕ} 0 1 = cc in absurd (omega arith)
@@ -232,7 +230,7 @@ read_facts s m e =
 
 -- an accepted map with a storable lot is written where there are the bytes for it
 pub room_enough : (m : Map) (n : ℕ) → is_accepted (acceptance m) ≡ true → m.lot < 2 ^ 48 → length_of m ≤ n
-    → writing m n ≡ write_numbers (Written (length_of m))
+    → writing m n ≡ write_numbers (Ok (length_of m))
 unfolding writing
 room_enough m n ok small room = rw (ok, lt-ltb m.lot (2 ^ 48) small, le-leb (length_of m) n room)
 
@@ -259,11 +257,11 @@ module _ (m : Map) (l : List ℕ) where
           (rw (ok, storable, no) (ap (λ (n : ℕ). write_fault_numbers (Buffer n)) e), rw (ok, storable, no))
 
       pub fills : (need : ℕ) (b : List ℕ) → need ≡ length_of m → need ≤ length l → b ≡ put l 0 (stored_of m)
-          → (write_numbers (Written need) ≡ writing m (length l)) × (b ≡ written m l)
+          → (write_numbers (Ok need) ≡ writing m (length l)) × (b ≡ written m l)
       unfolding written
       fills need b e room laid =
           let told = room_enough m (length l) ok small (omega arith) in (
-            ap (λ (n : ℕ). write_numbers (Written n)) e ∙ sym told,
+            ap (λ (n : ℕ). write_numbers (Ok n)) e ∙ sym told,
             rw told (laid ∙ put_front l (stored_of m) (omega (arith, length-stored m))
                 ∙ ap (λ (n : ℕ). stored_of m ++ drop n l) (length-stored m)),
           )

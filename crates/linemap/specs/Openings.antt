@@ -1,6 +1,6 @@
 -- Opening a net of either kind on a line map that is handed over: 2 (document 02, request 2), "3, 7 to 10" (document 01, "Causes and
 -- numbers"), with 19 after 3 (document 02, request 5), 12 after these (request 10), else the fresh net.
-use Rattle.std.specs.Prelude.{ℕ, List, [], ◌∷◌}
+use Rattle.std.specs.Prelude.{ℕ, List, [], ◌∷◌, ⊤, Result, Ok, Err}
 use Rattle.finite.specs.Tests.{unless}
 use Rattle.aggregate.specs.Ways.{is_way}
 use Rattle.refusal.specs.declared.Refusal.TheVariants.{OutOfRange}
@@ -10,8 +10,6 @@ use Rattle.topology.specs.Acceptance.{fault_numbers}
 use Rattle.linemap.specs.declared.Map.{Map}
 use Rattle.linemap.specs.declared.FreshFault.{FreshFault}
 use Rattle.linemap.specs.declared.FreshFault.TheVariants.{Unfit, Way}
-use Rattle.linemap.specs.declared.FreshAnswer.{FreshAnswer}
-use Rattle.linemap.specs.declared.FreshAnswer.TheVariants.{Opened, Refused}
 use Rattle.linemap.specs.Maps.{acceptance}
 
 -- why no net is opened: the number, with the station where one is returned
@@ -20,9 +18,9 @@ fresh_fault_numbers (Unfit fault) = fault_numbers fault
 fresh_fault_numbers Way = number_of OutOfRange ∷ []
 
 -- 0 where one is
-abbrev pub fresh_numbers : FreshAnswer → List ℕ
-fresh_numbers Opened = accepted
-fresh_numbers (Refused fault) = fresh_fault_numbers fault
+abbrev pub fresh_numbers : Result ⊤ FreshFault → List ℕ
+fresh_numbers (Ok done) = accepted
+fresh_numbers (Err fault) = fresh_fault_numbers fault
 
 -- "Opening with a way above 3 gets 12, after the map's numbers" (document 02, request 10)
 unfoldable pub openable : ℕ → Map → List ℕ
@@ -38,5 +36,5 @@ unfoldable pub opening_by : {Net : Type 0} → (ℕ → Map → Net) → ℕ →
 opening_by fresh_on way before m = record { numbers = openable way m; net = unless (is_accepted (openable way m)) before (fresh_on way m) }
 
 -- what an answer and the net beside it come to
-abbrev pub opening_of : {Net : Type 0} → FreshAnswer → Net → Opening Net
+abbrev pub opening_of : {Net : Type 0} → Result ⊤ FreshFault → Net → Opening Net
 opening_of answer net = record { numbers = fresh_numbers answer; net = net }

@@ -1,6 +1,6 @@
 -- What reading gives (document 01, "The line map" and "Causes and numbers": "Reading goes 1 to 10"; document 02, request 2: c counts in a
 -- row; request 4: longer lots; request 5: the desk).
-use Rattle.std.specs.Prelude.{ℕ, ◌+◌, ◌-◌, ◌*◌, ◌/◌, ◌%◌, ◌^◌, Bool, ◌&&◌, List, [], ◌∷◌, ◌++◌, length, replicate, ◌==◌, nat_le, nat_lt}
+use Rattle.std.specs.Prelude.{ℕ, ◌+◌, ◌-◌, ◌*◌, ◌/◌, ◌%◌, ◌^◌, Bool, ◌&&◌, List, [], ◌∷◌, ◌++◌, length, replicate, ◌==◌, nat_le, nat_lt, Result, Ok, Err}
 use Rattle.topology.specs.Answer.{accepted, is_accepted}
 use Rattle.finite.specs.Tests.{unless}
 use Rattle.topology.specs.Acceptance.{fault_numbers}
@@ -12,9 +12,6 @@ use Rattle.finite.specs.Below.{each, tabulate}
 use Rattle.linemap.specs.Maps.{acceptance}
 use Rattle.linemap.specs.Stored.{row_length, trailer_length, stored_length, word_count}
 use Rattle.linemap.specs.declared.Map.{Map}
-use Rattle.linemap.specs.declared.MapRead.{MapRead}
-use Rattle.linemap.specs.declared.ReadAnswer.{ReadAnswer}
-use Rattle.linemap.specs.declared.ReadAnswer.TheVariants.{Accepted, Refused}
 use Rattle.linemap.specs.declared.ReadFault.{ReadFault}
 use Rattle.linemap.specs.declared.ReadFault.TheVariants.{Short, Distance, Rows, CheckWord, Unfit}
 
@@ -28,18 +25,14 @@ read_fault_numbers CheckWord = 6 ∷ []
 read_fault_numbers (Unfit fault) = fault_numbers fault
 
 -- 0 where nothing is refused
-abbrev pub read_numbers : ReadAnswer → List ℕ
-read_numbers Accepted = accepted
-read_numbers (Refused fault) = read_fault_numbers fault
+abbrev pub read_numbers : Result Map ReadFault → List ℕ
+read_numbers (Ok m) = accepted
+read_numbers (Err fault) = read_fault_numbers fault
 
 -- what a reading comes to: the number with its values, and the map
 pub record ReadOutcome : Type 0 where
   pub numbers : List ℕ
   pub map : Map
-
--- what a read answers, as numbers, and its map
-abbrev pub read_outcome_of : MapRead → ReadOutcome
-read_outcome_of r = record { numbers = read_numbers r.answer; map = r.map }
 
 -- the map of a refused reading: all zero
 abbrev pub empty_map : Map
@@ -52,6 +45,11 @@ read_refused fault = record { numbers = read_fault_numbers fault; map = empty_ma
 -- the map that was read
 abbrev pub read_as : Map → ReadOutcome
 read_as m = record { numbers = accepted; map = m }
+
+-- what a read answers, as numbers, and its map: the empty one where it is refused
+abbrev pub read_outcome_of : Result Map ReadFault → ReadOutcome
+read_outcome_of (Ok m) = read_as m
+read_outcome_of (Err fault) = read_refused fault
 
 -- "The map is the last one in the lent bytes and ends with them: the last 16 are its trailer"
 abbrev pub trailer_in : List ℕ → ℕ

@@ -1,14 +1,13 @@
 -- Writing and reading undo each other (document 01, "The line map": "the bytes it fills are what reads back. Equal maps agree in k,
 -- lot and all places below k"; document 02, request 2: "Equal maps agree in c too"; request 5: "Equal maps agree in the desk too").
 -- `round_trips` (proofs/RoundTrips) proves both halves.
-use Rattle.std.specs.Prelude.{◌≡◌, ℕ, ◌-◌, ◌^◌, ◌<◌, ◌≤◌, List, ◌++◌, length, drop, slice_index}
+use Rattle.std.specs.Prelude.{◌≡◌, ℕ, ◌-◌, ◌^◌, ◌<◌, ◌≤◌, List, ◌++◌, length, drop, slice_index, Ok}
 use Rattle.topology.specs.Answer.{accepted}
 use Rattle.linemap.specs.Maps.{count_at, acceptance}
 use Rattle.linemap.specs.Stored.{length_of, stored_of}
 use Rattle.linemap.specs.Reading.{read_as, column, grid, reading}
 use Rattle.linemap.specs.Writing.{write_numbers, writing}
 use Rattle.linemap.specs.declared.Map.{Map}
-use Rattle.linemap.specs.declared.WriteAnswer.TheVariants.{Written}
 
 -- counts and sets fit their fields, as in every map that code holds; the lot may be any number
 pub record Fits (m : Map) : Type 0 where
@@ -44,7 +43,7 @@ pub record RoundTrips : Type 0 where
   pub equal_written : (m n : Map) → Equal m n → stored_of m ≡ stored_of n
   -- what is read can be written, given the bytes for it
   pub read_writable : (s : List ℕ) (m : Map) → ((i : ℕ) → slice_index s i < 2 ^ 8) → reading s ≡ read_as m → (n : ℕ) → length_of m ≤ n
-      → writing m n ≡ write_numbers (Written (length_of m))
+      → writing m n ≡ write_numbers (Ok (length_of m))
   -- and is written back as the bytes it was read from
   pub read_writes : (s : List ℕ) (m : Map) → ((i : ℕ) → slice_index s i < 2 ^ 8) → reading s ≡ read_as m
       → stored_of m ≡ drop (length s - length_of m) s

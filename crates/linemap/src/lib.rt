@@ -8,9 +8,12 @@ ghost use Rattle.linemap.specs.Stored;
 ghost use Rattle.linemap.specs.Reading;
 ghost use Rattle.linemap.specs.Writing;
 ghost use Rattle.linemap.specs.Openings;
+ghost use Rattle.linemap.specs.declared.ReadFault.{ReadFault};
+ghost use Rattle.linemap.specs.declared.WriteFault.{WriteFault};
+ghost use Rattle.linemap.specs.declared.FreshFault.{FreshFault};
 
 use aggregate::Config;
-use topology::{Fault, LinksAnswer, Verdict};
+use topology::Fault;
 
 mod numbers;
 mod reading;
@@ -43,7 +46,7 @@ pub struct Map {
 }
 
 // Why no map is read.
-#[derive(Clone, Copy)]
+#[derive(Clone, Copy, Debug, PartialEq, Eq)]
 pub enum ReadFault {
     // Fewer bytes than a trailer has.
     Short,
@@ -56,21 +59,16 @@ pub enum ReadFault {
     Unfit(Fault),
 }
 
-#[derive(Clone, Copy)]
-pub enum ReadAnswer {
-    Accepted,
-    Refused(ReadFault),
-}
+impl From<Fault> for ReadFault {
+    ghost from_gives = { λ fault r. r ≡ ReadFault.Unfit fault };
 
-// The answer, and the map, which is all zero after a refusal.
-#[derive(Clone, Copy)]
-pub struct MapRead {
-    pub answer: ReadAnswer,
-    pub map: Map,
+    fn from(fault: Fault) -> ReadFault {
+        ReadFault::Unfit(fault)
+    }
 }
 
 // Why no map is written.
-#[derive(Clone, Copy)]
+#[derive(Clone, Copy, Debug, PartialEq, Eq)]
 pub enum WriteFault {
     Unfit(Fault),
     // The lot is too long for its bytes.
@@ -79,15 +77,16 @@ pub enum WriteFault {
     Buffer(usize),
 }
 
-// A map that was written fills so many bytes.
-#[derive(Clone, Copy)]
-pub enum WriteAnswer {
-    Written(usize),
-    Refused(WriteFault),
+impl From<Fault> for WriteFault {
+    ghost from_gives = { λ fault r. r ≡ WriteFault.Unfit fault };
+
+    fn from(fault: Fault) -> WriteFault {
+        WriteFault::Unfit(fault)
+    }
 }
 
 // Why no net is opened on a map.
-#[derive(Clone, Copy)]
+#[derive(Clone, Copy, Debug, PartialEq, Eq)]
 pub enum FreshFault {
     // The map is not accepted.
     Unfit(Fault),
@@ -95,10 +94,12 @@ pub enum FreshFault {
     Way,
 }
 
-#[derive(Clone, Copy)]
-pub enum FreshAnswer {
-    Opened,
-    Refused(FreshFault),
+impl From<Fault> for FreshFault {
+    ghost from_gives = { λ fault r. r ≡ FreshFault.Unfit fault };
+
+    fn from(fault: Fault) -> FreshFault {
+        FreshFault::Unfit(fault)
+    }
 }
 
 // The map of no stations, which stands where none was read.
@@ -137,44 +138,39 @@ pub fn config(m: Map, way: u8) -> Config
         k: m.k,
         classes: m.classes,
         desk: m.desk,
-        way: way,
+        way,
     }
 }
 
 // The rules on a map handed over: 2, 3, 19, then 7 to 10.
-pub fn accept(m: Map) -> Verdict
+pub fn accept(m: Map) -> Result<(), Fault>
     ensures { Acceptance.verdict_numbers result ≡ Maps.acceptance m }
 {
     if !aggregate::is_class_count(m.classes as u64) {
-        return Verdict::Refused(Fault::Classes);
+        return Err(Fault::Classes);
     }
-    let sets = m.neighbours;
-    topology::accept(m.desk, m.k, &sets)
+    topology::accept(m.desk, m.k, &m.neighbours)
 }
 
 // Whether a net is opened on a map, to join counts the way: the map's numbers, then 12.
-pub fn open(m: Map, way: u8) -> FreshAnswer
+pub fn open(m: Map, way: u8) -> Result<(), FreshFault>
     ensures { Openings.fresh_numbers result ≡ Openings.openable way m }
 {
-    let verdict = accept(m);
-    if let Verdict::Refused(fault) = verdict {
-        return FreshAnswer::Refused(FreshFault::Unfit(fault));
-    }
+    accept(m)?;
     if !aggregate::is_way(way) {
-        return FreshAnswer::Refused(FreshFault::Way);
+        return Err(FreshFault::Way);
     }
-    FreshAnswer::Opened
+    Ok(())
 }
 
 // The number of links of an accepted map.
-pub fn links(m: Map) -> LinksAnswer
+pub fn links(m: Map) -> Result<u32, Fault>
     ensures { Acceptance.links_numbers result ≡ Maps.links_in m }
 {
     if !aggregate::is_class_count(m.classes as u64) {
-        return LinksAnswer::Refused(Fault::Classes);
+        return Err(Fault::Classes);
     }
-    let sets = m.neighbours;
-    topology::links(m.desk, m.k, &sets)
+    topology::links(m.desk, m.k, &m.neighbours)
 }
 
 // Whether a lot fits its 48 bits.
@@ -185,49 +181,35 @@ pub fn is_storable(lot: u64) -> bool
 }
 
 // The last map in s.
-pub fn read(s: &[u8]) -> MapRead
+pub fn read(s: &[u8]) -> Result<Map, ReadFault>
     ensures { Reading.read_outcome_of result ≡ Reading.reading s.now }
 {
-    let trailer = reading::read_trailer(s);
-    let reading::TrailerRead::Fields {
-        stations,
-        desk,
-        row_length,
-        distance,
-        lot,
-    } = trailer
-    else {
-        return reading::unread(ReadAnswer::Refused(ReadFault::Short));
+    let Some(trailer) = reading::read_trailer(s) else {
+        return Err(ReadFault::Short);
     };
-    let answer = reading::judge_trailer(stations, desk, row_length, distance);
-    let ReadAnswer::Accepted = answer else {
-        return reading::unread(answer);
-    };
+    trailer.judge()?;
     reading::read_rows(
         s,
-        reading::classes_of(row_length),
-        stations as u8,
-        desk as u8,
-        lot,
+        trailer.classes(),
+        trailer.stations as u8,
+        trailer.desk as u8,
+        trailer.lot,
     )
 }
 
 // The stored form of m, from the first byte of buf.
-pub fn write(m: Map, buf: &mut [u8]) -> WriteAnswer
+pub fn write(m: Map, buf: &mut [u8]) -> Result<usize, WriteFault>
     ensures answer { Writing.write_numbers result ≡ Writing.writing m (length buf.old) }
     ensures bytes { buf.new ≡ Writing.written m buf.old }
 {
-    let verdict = accept(m);
-    if let Verdict::Refused(fault) = verdict {
-        return WriteAnswer::Refused(WriteFault::Unfit(fault));
-    }
+    accept(m)?;
     if !is_storable(m.lot) {
-        return WriteAnswer::Refused(WriteFault::Lot);
+        return Err(WriteFault::Lot);
     }
     let need = stored_length(m.classes, m.k);
     if buf.len() < need {
-        return WriteAnswer::Refused(WriteFault::Buffer(need));
+        return Err(WriteFault::Buffer(need));
     }
     writing::put_map(m, buf);
-    WriteAnswer::Written(need)
+    Ok(need)
 }

@@ -6,7 +6,7 @@ ghost use Rattle.linemap.specs.Stored.{row_length, trailer_length, stored_length
 ghost use Rattle.linemap.specs.Internal.Stages;
 
 use crate::Map;
-use crate::numbers::{put, sum_words, wide_count};
+use crate::numbers::{put, sum_words};
 
 // The counts of station i, from `at`.
 fn put_counts(buf: &mut [u8], at: usize, classes: usize, counts: &[u32; 512], i: usize)
@@ -14,11 +14,13 @@ fn put_counts(buf: &mut [u8], at: usize, classes: usize, counts: &[u32; 512], i:
     ensures { buf.new ≡ Stages.put buf.old at (count_bytes classes counts.now i) }
 {
     let first = crate::PLACES * i;
-    let mut j: usize = 0;
-    while j < classes {
-        let count = wide_count(counts[first + j]);
-        put(buf, at + crate::COUNT_LENGTH * j, 4, count);
-        j += 1;
+    for j in 0..classes {
+        put(
+            buf,
+            at + crate::COUNT_LENGTH * j,
+            4,
+            counts[first + j] as u64,
+        );
     }
 }
 
@@ -37,12 +39,8 @@ fn put_rows(m: Map, buf: &mut [u8])
     let k = m.k as usize;
     let classes = m.classes as usize;
     let width = crate::row_length(m.classes);
-    let counts = m.counts;
-    let neighbours = m.neighbours;
-    let mut i: usize = 0;
-    while i < k {
-        put_row(buf, width * i, classes, &counts, i, neighbours[i]);
-        i += 1;
+    for i in 0..k {
+        put_row(buf, width * i, classes, &m.counts, i, m.neighbours[i]);
     }
 }
 

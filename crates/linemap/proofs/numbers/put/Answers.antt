@@ -1,5 +1,5 @@
 -- `linemap::numbers::put` meets its contract. Invariant: what is left to store leads to the same list. Assumes nothing.
-use Rattle.std.proofs.Common.{◌≡◌, ℕ, suc, ◌+◌, ◌-◌, ◌/◌, ◌%◌, ◌^◌, ◌<◌, List, set, sym, refl, ◌∙◌, add_assoc, arith, rules}
+use Rattle.std.proofs.Common.{◌≡◌, ℕ, suc, ◌+◌, ◌-◌, ◌/◌, ◌%◌, ◌^◌, ◌<◌, List, set, sym, ◌∙◌, add_assoc, arith, rules}
 use Rattle.finite.specs.Numbers.{bytes}
 use Rattle.linemap.specs.Internal.Stages.{put}
 use Rattle.linemap.proofs.Put.{put-none, put_first}
@@ -17,17 +17,10 @@ put-end : (b : List ℕ) (at n x : ℕ) → n ≡ 0 → put b at (bytes n x) ≡
 unfolding bytes
 put-end b at n x none = rw none (put-none b at)
 
-pub loop-i-init : goal.loop-i-init
-loop-i-init c =
-    let from : c.args.at + 0 ≡ c.args.at = omega arith in
-    let all : c.args.n - 0 ≡ c.args.n = omega arith in
-    (omega arith, rw (from, all), refl)
-
 pub loop-i-preserved : goal.loop-i-preserved
 loop-i-preserved c =
     let at = c.loop-i in (
-      omega arith,
-      sym (put_byte at.buf c.args.at c.args.n at.i at.left c.loop-i-test.true) ∙ at.invariant.1,
+      sym (put_byte at.buf c.args.at c.args.n at.i at.left c.loop-i-test.true) ∙ at.invariant.0,
       search rules,
     )
 
@@ -35,4 +28,4 @@ pub returns : goal.returns
 returns c =
     let at = c.loop-i in
     let none : c.args.n - at.i ≡ 0 = omega arith in
-    sym (put-end at.buf (c.args.at + at.i) (c.args.n - at.i) at.left none) ∙ at.invariant.1
+    sym (put-end at.buf (c.args.at + at.i) (c.args.n - at.i) at.left none) ∙ at.invariant.0

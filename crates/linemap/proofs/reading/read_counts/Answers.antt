@@ -1,5 +1,5 @@
 -- `linemap::reading::read_counts` meets its contract. Invariant: the first j counts stand in their places. Assumes nothing.
-use Rattle.std.proofs.Common.{◌≡◌, ◌+◌, ◌*◌, [], ◌∷◌, set, sym, ap, ◌∙◌, arith, rules}
+use Rattle.std.proofs.Common.{◌+◌, ◌*◌, [], ◌∷◌, set, sym, ap, ◌∙◌, arith, rules}
 use Rattle.finite.specs.Below.{each, tabulate}
 use Rattle.finite.proofs.Below.{length-tabulate}
 use Rattle.linemap.specs.Reading.{count_in}
@@ -10,7 +10,7 @@ use Rattle.linemap.proofs.reading.read_counts.Goals as goal
 
 pub loop-j-init : goal.loop-j-init
 unfolding tabulate each
-loop-j-init c = (omega arith, sym (put-none _ _), c.requires.3)
+loop-j-init c = (sym (put-none _ _), c.requires.3)
 
 pub loop-j-preserved : goal.loop-j-preserved
 unfolding put
@@ -18,14 +18,8 @@ loop-j-preserved c =
     let a = c.args in
     let at = c.loop-j in
     let f = count_in a.s.now a.at in (
-      omega arith,
-      lay a.counts.now (8 * a.i) (tabulate at.j f) (f at.j ∷ []) (8 * a.i + at.j) at.invariant.1
-          (ap (set at.counts (8 * a.i + at.j)) c.get-count.ensures.0) (omega (arith, length-tabulate f at.j))
+      lay a.counts.now (8 * a.i) (tabulate at.j f) (f at.j ∷ []) (8 * a.i + at.j) at.invariant.0
+          (ap (set at.counts (8 * a.i + at.j)) c.get.ensures.0) (omega (arith, length-tabulate f at.j))
           ∙ ap (put a.counts.now (8 * a.i)) (sym (tabulate_snoc f at.j)),
       search rules,
     )
-
-pub returns : goal.returns
-returns c =
-    let all : c.loop-j.j ≡ c.args.classes = omega arith in
-    cc

@@ -5,13 +5,13 @@ use Rattle.finite.specs.Below.{tabulate}
 use Rattle.finite.specs.Numbers.{number}
 use Rattle.linemap.specs.Words.{sum_words}
 use Rattle.linemap.specs.Stored.{row_length, stored_length, word_count}
-use Rattle.linemap.specs.Reading.{column, grid, count_in, read_outcome_of, judged}
+use Rattle.linemap.specs.Reading.{column, grid, count_in, judged}
 use Rattle.linemap.specs.Internal.Stages.{put}
 use Rattle.linemap.proofs.Each.{column-none, column_more, length-grid, grid-none, grid_more}
 use Rattle.linemap.proofs.Rules.{row_below, row_read, row_outside, rows_outside, words_off, words_add}
 use Rattle.linemap.proofs.reading.read_rows.Invariants.{start_of, counts_of, set_of}
 use Rattle.linemap.proofs.reading.read_rows.Goals as goal
-use Rattle.linemap.proofs.reading.read_rows.Goals.{In-Row, After-sum_words, After-loop-i, In-loop-i}
+use Rattle.linemap.proofs.reading.read_rows.Goals.{In-Some, After-sum_words, After-loop-i, In-loop-i}
 
 -- the counts of row i, stored behind those of the rows before it
 counts_more : {l l' : List ℕ} {at : ℕ} (s : List ℕ) (c k i : ℕ) → c ≤ 8 → i < 64 → l ≡ grid (counts_of s c k) c i
@@ -30,7 +30,7 @@ row_in c =
     omega (arith, same, below, c.stored_length-need.ensures)
 
 pub loop-i-init : goal.loop-i-init
-loop-i-init c = (search rules, inl (search rules), sym (grid-none _ _ c.requires.1), sym (column-none _))
+loop-i-init c = (inl (search rules), sym (grid-none _ _ c.requires.1), sym (column-none _))
 
 pub overflow_mul-width : goal.overflow_mul-width
 overflow_mul-width c =
@@ -40,39 +40,39 @@ overflow_mul-width c =
 pub overflow_sub-need : goal.overflow_sub-need
 overflow_sub-need c = omega (arith, row_in c)
 
-pub read_row-row-requires : goal.read_row-row-requires
-read_row-row-requires c =
+pub read_row-requires : goal.read_row-requires
+read_row-requires c =
     omega (arith, row_in c, c.row_length-width.ensures.0, c.requires.0)
 
 pub returns-in_default : goal.returns-in_default
 returns-in_default c =
     let a = c.args in
-    let outside = row_outside a.s.now _ _ (sym c.read_row-row.ensures ∙ c.in_default.is) in
+    let outside = row_outside a.s.now _ _ (sym c.read_row.ensures ∙ c.in_default.is) in
     let far : length a.s.now < stored_length a.classes a.k = omega (arith, outside, c.stored_length-need.ensures) in
-    ap read_outcome_of c.unread.ensures ∙ sym (rows_outside a.s.now a.classes a.k a.desk a.lot far)
+    sym (rows_outside a.s.now a.classes a.k a.desk a.lot far)
 
 -- what the row that was read is
-row_is : (c : In-Row)
+row_is : (c : In-Some)
     → let a = c.args in
     let place = start_of a.s.now a.classes a.k + row_length a.classes * c.loop-i.i in
     (stored_length a.classes a.k ≤ length a.s.now)
-    × (c.in-Row.at ≡ place)
-    × (c.in-Row.set ≡ number a.s.now (place + 4 * a.classes) 8)
+    × (c.in-Some.field-0.at ≡ place)
+    × (c.in-Some.field-0.set ≡ number a.s.now (place + 4 * a.classes) 8)
 row_is c =
     let a = c.args in
-    row_read a.s.now a.classes a.k c.loop-i.i _ _ _ _ c.loop-i-test.true c.row_length-width.ensures.0
-    c.stored_length-need.ensures c.loop-i.invariant.1 (sym c.read_row-row.ensures ∙ c.in-Row.is)
+    row_read a.s.now a.classes a.k c.loop-i.i _ _ _ c.loop-i-test.true c.row_length-width.ensures.0
+    c.stored_length-need.ensures c.loop-i.invariant.0 (sym c.read_row.ensures ∙ c.in-Some.is)
 
 pub read_counts-requires : goal.read_counts-requires
 read_counts-requires c =
     let a = c.args in
-    let row = row_is (goal.at.read_counts-requires c).In-Row in
+    let row = row_is (goal.at.read_counts-requires c).In-Some in
     let more = c.loop-i-test.true in
     let few : c.loop-i.i < 64 = omega (arith, c.requires.3, more) in (
       omega (arith, row.0, row.1, row_below (row_length a.classes) c.loop-i.i a.k more),
       c.requires.1,
       few,
-      ap length c.loop-i.invariant.2
+      ap length c.loop-i.invariant.1
           ∙ length-grid (counts_of a.s.now a.classes a.k) a.classes c.requires.1 c.loop-i.i (omega (arith, few)),
     )
 
@@ -81,12 +81,11 @@ loop-i-preserved c =
     let a = c.args in
     let s = a.s.now in
     let i = c.loop-i.i in
-    let row = row_is (goal.at.loop-i-preserved c).In-Row in
+    let row = row_is (goal.at.loop-i-preserved c).In-Some in
     let few : i < 64 = omega (arith, c.requires.3, c.loop-i-test.true) in (
-      search rules,
       inr row.0,
-      counts_more s a.classes a.k i c.requires.1 few c.loop-i.invariant.2 row.1 c.read_counts.ensures,
-      ap₂ (λ (l : List ℕ) (n : ℕ). set l i n) c.loop-i.invariant.3 row.2 ∙ column_more (set_of s a.classes a.k) i few,
+      counts_more s a.classes a.k i c.requires.1 few c.loop-i.invariant.1 row.1 c.read_counts.ensures,
+      ap₂ (λ (l : List ℕ) (n : ℕ). set l i n) c.loop-i.invariant.2 row.2 ∙ column_more (set_of s a.classes a.k) i few,
     )
 
 -- all rows were read, and they stand within the bytes
@@ -95,7 +94,7 @@ all_read c = omega arith
 
 all_fit : (c : After-loop-i)
     → let a = c.args in stored_length a.classes a.k ≤ length a.s.now
-all_fit c = ⊎_elim (λ e. absurd (omega (arith, e, all_read c))) (λ f. f) c.loop-i.invariant.1
+all_fit c = ⊎_elim (λ e. absurd (omega (arith, e, all_read c))) (λ f. f) c.loop-i.invariant.0
 
 summed : (c : After-sum_words)
     → let a = c.args in
@@ -111,8 +110,7 @@ sum_words-requires c = omega (arith, all_fit c, c.stored_length-need.ensures)
 pub returns-then-sum_words-ne0 : goal.returns-then-sum_words-ne0
 returns-then-sum_words-ne0 c =
     let a = c.args in
-    ap read_outcome_of c.unread-then-sum_words-ne0.ensures
-    ∙ sym (words_off a.s.now a.classes a.k a.desk a.lot (all_fit (goal.at.returns-then-sum_words-ne0 c).After-loop-i)
+    sym (words_off a.s.now a.classes a.k a.desk a.lot (all_fit (goal.at.returns-then-sum_words-ne0 c).After-loop-i)
     (λ z. c.if-sum_words-ne0.true (summed (goal.at.returns-then-sum_words-ne0 c).After-sum_words ∙ z)))
 
 pub returns : goal.returns
@@ -123,7 +121,7 @@ returns c =
     let all = all_read (goal.at.returns c).After-loop-i in
     c.judge.ensures
     ∙ ap₂ (λ (x y : List ℕ). judged (record { k = a.k; classes = a.classes; desk = a.desk; lot = a.lot; counts = x; neighbours = y }))
-    (inv.2 ∙ ap (grid (counts_of s a.classes a.k) a.classes) all)
-    (inv.3 ∙ ap (column 64 (set_of s a.classes a.k)) all)
+    (inv.1 ∙ ap (grid (counts_of s a.classes a.k) a.classes) all)
+    (inv.2 ∙ ap (column 64 (set_of s a.classes a.k)) all)
     ∙ sym (words_add s a.classes a.k a.desk a.lot (all_fit (goal.at.returns c).After-loop-i)
     (sym (summed (goal.at.returns c).After-sum_words) ∙ c.if-sum_words-ne0.false))

@@ -17,10 +17,6 @@ abbrev pub set_of : List ℕ → ℕ → ℕ → ℕ → ℕ
 set_of s c k i = number s (start_of s c k + row_length c * i + 4 * c) 8
 
 abbrev pub invariant-loop-i : goal.invariant-loop-i
-invariant-loop-i l = (l.i ≤ l.k)
-    × ((l.i ≡ 0) ⊎ (stored_length l.classes l.k ≤ length l.s))
+invariant-loop-i l = ((l.i ≡ 0) ⊎ (stored_length l.classes l.k ≤ length l.s))
     × (l.counts ≡ grid (counts_of l.s l.classes l.k) l.classes l.i)
     × (l.neighbours ≡ column 64 (set_of l.s l.classes l.k) l.i)
-
-abbrev pub decreases-loop-i : goal.decreases-loop-i
-decreases-loop-i l = l.k - l.i
