@@ -19,7 +19,3 @@ counted c = sym c.is_station_count.ensures ∙ c.if-not-is_station_count.false
 pub returns-then-k-root : goal.returns-then-k-root
 unfolding verdict_of
 returns-then-k-root c = rw (counted (goal.at.returns-then-k-root c).Else-not-is_station_count, le-ltb _ _ c.if-k-root.true)
-
-pub judge-requires : goal.judge-requires
-judge-requires c =
-    (counted (goal.at.judge-requires c).Else-not-is_station_count, c.if-k-root.false, c.transpose-namers.ensures)

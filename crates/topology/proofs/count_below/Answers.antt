@@ -3,16 +3,13 @@ use mathlib.Core.Path.{◌≡◌, ap, ◌∙◌}
 use Prim.Native.Nat.{ℕ, ◌*◌, ◌%◌, ◌^◌, ◌<◌}
 use native.Mathlib.Nat.{one-mul, mod-eq_of_lt}
 use native.Mathlib.Omega.{arith}
-use lib.Pow.{pow_pos, pow-lt}
+use lib.Pow.{pow-lt}
 use Rattle.bitset.specs.Set.{size}
 use Rattle.topology.proofs.Sets.{size-mod}
 use Rattle.topology.proofs.count_below.Goals as goal
 
 exact : (i : ℕ) → i < 64 → 1 * 2 ^ i % 2 ^ 64 ≡ 2 ^ i
 exact i h = rw one-mul (mod-eq_of_lt (pow-lt h))
-
-pub nonzero_rem-low : goal.nonzero_rem-low
-nonzero_rem-low c = rw (exact c.args.i c.requires) (pow_pos c.args.i)
 
 pub returns : goal.returns
 returns c =

@@ -1,15 +1,11 @@
 -- `topology::over_all` meets its contract. Invariant: the first offender from i on is the first of all. Assumes nothing.
-use mathlib.Core.Path.{◌≡◌, sym, ap, ◌∙◌}
-use Prim.Native.Nat.{◌-◌}
+use mathlib.Core.Path.{◌≡◌, sym, ◌∙◌}
 use native.Mathlib.Omega.{arith}
 use borrow.Author.Tests.{lt-leb, le-leb}
 use Rattle.std.proofs.Common.{of_calls}
-use Rattle.topology.specs.Acceptance.{first_from, lowest}
+use Rattle.topology.specs.Acceptance.{lowest}
 use Rattle.topology.proofs.Searches.{first-here, first-later, first-end}
 use Rattle.topology.proofs.over_all.Goals as goal
-
-pub loop-i-init : goal.loop-i-init
-loop-i-init g c = λ rule told. let whole : c.args.k - 0 ≡ c.args.k = omega arith in ap (first_from rule 0) whole
 
 pub returns-then-breaks : goal.returns-then-breaks
 returns-then-breaks g c = λ rule cause told caused.

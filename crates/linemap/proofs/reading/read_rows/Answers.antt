@@ -1,6 +1,6 @@
 -- `linemap::reading::read_rows` meets its contract. Invariant: the places of the first i stations are read, and the others are zero; once a
 -- row is read all rows stand within the bytes, since the first of them starts farthest back. Assumes nothing.
-use Rattle.std.proofs.Common.{◌≡◌, ℕ, ◌+◌, ◌*◌, ◌<◌, ◌≤◌, List, length, set, sym, ap, ◌∙◌, ap₂, inl, inr, ⊎_elim, mul-le-mul, arith, rules}
+use Rattle.std.proofs.Common.{◌≡◌, ℕ, ◌+◌, ◌*◌, ◌<◌, ◌≤◌, List, length, set, sym, ap, ◌∙◌, ap₂, inl, inr, ⊎_elim, arith, rules}
 use Rattle.finite.specs.Below.{tabulate}
 use Rattle.finite.specs.Numbers.{number}
 use Rattle.linemap.specs.Words.{sum_words}
@@ -19,30 +19,8 @@ counts_more : {l l' : List ℕ} {at : ℕ} (s : List ℕ) (c k i : ℕ) → c �
 counts_more s c k i few below before place stored =
     stored ∙ ap₂ (λ (x : List ℕ) (n : ℕ). put x (8 * i) (tabulate c (count_in s n))) before place ∙ grid_more (counts_of s c k) c few i below
 
--- row i, which is read next, starts within the map
-row_in : (c : In-loop-i)
-    → let width = c.row_length-width.result in
-    width * c.loop-i.i + width + 16 ≤ c.stored_length-need.result
-row_in c =
-    let k = c.args.k in
-    let same = ap (λ (w : ℕ). w * k) c.row_length-width.ensures.0 in
-    let below = row_below c.row_length-width.result c.loop-i.i k c.loop-i-test.true in
-    omega (arith, same, below, c.stored_length-need.ensures)
-
 pub loop-i-init : goal.loop-i-init
 loop-i-init c = (inl (search rules), sym (grid-none _ _ c.requires.1), sym (column-none _))
-
-pub overflow_mul-width : goal.overflow_mul-width
-overflow_mul-width c =
-    let few : c.loop-i.i ≤ 64 = omega (arith, c.requires.3) in
-    omega (arith, mul-le-mul c.row_length-width.ensures.1 few)
-
-pub overflow_sub-need : goal.overflow_sub-need
-overflow_sub-need c = omega (arith, row_in c)
-
-pub read_row-requires : goal.read_row-requires
-read_row-requires c =
-    omega (arith, row_in c, c.row_length-width.ensures.0, c.requires.0)
 
 pub returns-in_default : goal.returns-in_default
 returns-in_default c =
@@ -100,12 +78,6 @@ summed : (c : After-sum_words)
     → let a = c.args in
     c.sum_words.result ≡ sum_words a.s.now (start_of a.s.now a.classes a.k) (word_count a.classes a.k)
 summed c = rw c.stored_length-need.ensures at c.sum_words.ensures
-
-pub overflow_sub-start : goal.overflow_sub-start
-overflow_sub-start c = omega (arith, all_fit c, c.stored_length-need.ensures)
-
-pub sum_words-requires : goal.sum_words-requires
-sum_words-requires c = omega (arith, all_fit c, c.stored_length-need.ensures)
 
 pub returns-then-sum_words-ne0 : goal.returns-then-sum_words-ne0
 returns-then-sum_words-ne0 c =

@@ -1,12 +1,6 @@
 -- `linemap::writing::put_map` meets its contract: rows, trailer and check word, one right after the other. Assumes nothing.
-use Rattle.std.proofs.Common.{ℕ, ◌*◌, ap, arith}
 use Rattle.linemap.proofs.StoredForm.{stored-laid}
 use Rattle.linemap.proofs.writing.put_map.Goals as goal
-
-pub put_trailer-requires : goal.put_trailer-requires
-put_trailer-requires c =
-    let width_is = c.row_length-width.ensures.0 in
-    omega (arith, ap (λ (w : ℕ). w * c.args.m.k) width_is, c.requires.2)
 
 pub returns : goal.returns
 returns c =
