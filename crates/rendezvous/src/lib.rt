@@ -9,7 +9,7 @@ ghost use Rattle.rendezvous.specs.Net.{net_in, beside_in};
 ghost use Rattle.rendezvous.specs.Rules.{rules};
 ghost use Rattle.rendezvous.specs.Opening.{rendezvous_opening};
 
-use linemap::{FreshAnswer, Map};
+use linemap::{FreshFault, Map};
 use refusal::Refusal;
 use schedule::rows::Drawn;
 use schedule::{Answer, Ran, Step};
@@ -45,21 +45,16 @@ pub fn fresh(
     carrying: bool,
     net: &mut [u64; 705],
     totals: &mut [u64; 576],
-) -> FreshAnswer
+) -> Result<(), FreshFault>
     ensures opening { opening_of result (net_in net.new totals.new) ≡ rendezvous_opening carrying way m (net_in net.old totals.old) }
     ensures beside { beside_in net.new ≡ beside_in net.old }
 {
-    let answer = linemap::open(m, way);
-    if let FreshAnswer::Refused(fault) = answer {
-        return FreshAnswer::Refused(fault);
-    }
+    linemap::open(m, way)?;
     let t = linemap::config(m, way);
-    let counts = m.counts;
-    let neighbours = m.neighbours;
-    stations::put_fresh(net, t, counts, neighbours);
+    stations::put_fresh(net, t, m.counts, m.neighbours);
     form::put_carrying(net, carrying);
     stations::clear_kept(totals);
-    FreshAnswer::Opened
+    Ok(())
 }
 
 // One step: refused by 11, 12 or 13, or made.
