@@ -16,7 +16,7 @@ ghost use Rattle.mailbox.specs.Opening.{mailbox_opening};
 ghost use Rattle.mailbox.specs.Internal.Receivers.{Made};
 
 use aggregate::Config;
-use linemap::{FreshAnswer, Map};
+use linemap::{FreshFault, Map};
 use refusal::Refusal;
 use schedule::rows::Drawn;
 use schedule::{Answer, Ran, Step};
@@ -51,19 +51,19 @@ fn put_fresh(
 }
 
 // The fresh net of an accepted map, to join counts the way; any other map and any other way opens none.
-pub fn fresh(m: Map, way: u8, line: &mut [u64; 705], boxes: &mut [u64; 36992]) -> FreshAnswer
+pub fn fresh(
+    m: Map,
+    way: u8,
+    line: &mut [u64; 705],
+    boxes: &mut [u64; 36992],
+) -> Result<(), FreshFault>
     ensures opening { opening_of result (net_of line.new boxes.new) ≡ mailbox_opening way m (net_of line.old boxes.old) }
     ensures spare { spare_in line.new ≡ spare_in line.old }
 {
-    let answer = linemap::open(m, way);
-    if let FreshAnswer::Refused(fault) = answer {
-        return FreshAnswer::Refused(fault);
-    }
+    linemap::open(m, way)?;
     let t = linemap::config(m, way);
-    let counts = m.counts;
-    let neighbours = m.neighbours;
-    put_fresh(line, boxes, t, counts, neighbours);
-    FreshAnswer::Opened
+    put_fresh(line, boxes, t, m.counts, m.neighbours);
+    Ok(())
 }
 
 // Whether the posted sums of a sender are bounded. Most senders have posted none; eight receivers to whom no answer waits are passed by one test.
