@@ -12,7 +12,7 @@ ghost use Rattle.sheet.specs.Internal.Laying.{Lays, Narrow, NarrowCell, NarrowCe
 use aggregate::{Aggregate, Cell, Config};
 use linemap::Map;
 use station::Station;
-use topology::{Fault, Verdict};
+use topology::Fault;
 
 // The columns that `text::align` fills.
 const COLUMNS: usize = 20;
@@ -216,8 +216,7 @@ fn sheet_length(m: Map) -> usize
 pub fn put_sheet(m: Map, net: &[u64; 705], totals: &[u64; 576], out: &mut [u8]) -> SheetAnswer
     ensures { sheet_outcome_of result out.new ≡ sheet_on m (net_in net.now totals.now) out.old }
 {
-    let verdict = linemap::accept(m);
-    if let Verdict::Refused(fault) = verdict {
+    if let Err(fault) = linemap::accept(m) {
         return SheetAnswer::Refused(SheetFault::Unfit(fault));
     }
     if !linemap::is_storable(m.lot) {

@@ -18,7 +18,7 @@ use Rattle.sheet.proofs.put_sheet.Goals.{After-load-desk, Else-not-is_reported}
 
 -- what each test that was passed says
 accepted-map : (c : In_default) → is_accepted (acceptance c.args.m) ≡ true
-accepted-map c = ap is_accepted (sym c.accept-verdict.ensures ∙ ap verdict_numbers c.in_default.is)
+accepted-map c = ap is_accepted (sym c.accept.ensures ∙ ap verdict_numbers c.in_default.is)
 
 storable_lot : (c : Else-not-is_storable) → is_storable c.args.m.lot ≡ true
 storable_lot c = sym c.is_storable.ensures ∙ c.if-not-is_storable.false
@@ -44,11 +44,11 @@ reported : (c : Else-not-is_reported) → c.load-desk.result ≡ desk_of (net_in
     → is_reported c.args.m.classes (desk_of (net_in c.args.net.now c.args.totals.now)) ≡ true
 reported c desk = sym (c.is_reported.ensures ∙ ap (is_reported c.args.m.classes) desk) ∙ c.if-not-is_reported.false
 
-pub returns-in-Refused : goal.returns-in-Refused
-returns-in-Refused c =
+pub returns-in-Err : goal.returns-in-Err
+returns-in-Err c =
     let a = c.args in
-    let fault = c.in-Refused.fault in
-    let told : fault_numbers fault ≡ acceptance a.m = ap verdict_numbers (sym c.in-Refused.is) ∙ c.accept-verdict.ensures in
+    let fault = c.in-Err.fault in
+    let told : fault_numbers fault ≡ acceptance a.m = ap verdict_numbers (sym c.in-Err.is) ∙ c.accept.ensures in
     unfit a.m (net_in a.net.now a.totals.now) a.out.now fault told
 
 pub returns-then-not-is_storable : goal.returns-then-not-is_storable
