@@ -3,14 +3,12 @@ use mathlib.Core.Path.{◌≡◌, sym, ap, ◌∙◌, subst}
 use mathlib.Core.List.{List, [], ◌∷◌}
 use Prim.Native.Nat.{ℕ, ◌-◌, ◌/◌, ◌%◌, ◌≤◌, ◌<◌}
 use lib.ListN.{length}
+use Rattle.std.specs.Prelude.{Result, Ok, Err}
 use borrow.Author.Tests.{le-leb, lt-leb, ne_eqb}
 use Rattle.linemap.specs.declared.Map.{Map}
-use Rattle.linemap.specs.declared.MapRead.{MapRead}
 use Rattle.linemap.specs.declared.ReadFault.{ReadFault}
-use Rattle.linemap.specs.declared.ReadAnswer.{ReadAnswer}
-use Rattle.linemap.specs.declared.ReadAnswer.TheVariants.{Accepted, Refused}
 use Rattle.linemap.specs.Stored.{length_of}
-use Rattle.linemap.specs.Reading.{read_fault_numbers, read_numbers, ReadOutcome, read_as, reading}
+use Rattle.linemap.specs.Reading.{read_fault_numbers, ReadOutcome, read_as, reading}
 use Rattle.linemap.specs.Reading as reading
 use Rattle.linemap.proofs.Answers.{read_fault_refuses}
 use Rattle.linemap.proofs.Rules.{read_facts}
@@ -22,27 +20,27 @@ module _ (s : List ℕ) where
   unfolding input_opening
   too_long h = rw (lt-leb (length s) most_bytes h)
 
-  module _ (few : length s ≤ most_bytes) (r : MapRead) (told : reading.read_outcome_of r ≡ reading s) where
-    pub unread : (fault : ReadFault) → r.answer ≡ Refused fault → open_refused (open_fault_numbers (Unread fault)) ≡ input_opening s
+  module _ (few : length s ≤ most_bytes) (r : Result Map ReadFault) (told : reading.read_outcome_of r ≡ reading s) where
+    pub unread : (fault : ReadFault) → r ≡ Err fault → open_refused (open_fault_numbers (Unread fault)) ≡ input_opening s
     unfolding input_opening
     unread fault e =
-        let numbers : (reading s).numbers ≡ read_fault_numbers fault = ap (λ (o : ReadOutcome). o.numbers) (sym told) ∙ ap read_numbers e in
+        let numbers : (reading s).numbers ≡ read_fault_numbers fault = ap (λ (o : ReadOutcome). o.numbers) (sym told ∙ ap reading.read_outcome_of e) in
         rw (le-leb (length s) most_bytes few, numbers, read_fault_refuses fault)
 
-    module _ (e : r.answer ≡ Accepted) where
-      is_read : reading s ≡ read_as r.map
-      is_read = sym told ∙ ap (λ (a : ReadAnswer). record { numbers = read_numbers a; map = r.map }) e
+    module _ (m : Map) (e : r ≡ Ok m) where
+      is_read : reading s ≡ read_as m
+      is_read = sym told ∙ ap reading.read_outcome_of e
 
       -- the map ends the input
-      pub map_fits : length_of r.map ≤ length s
-      map_fits = let facts = read_facts s r.map is_read in subst (λ (m : Map). length_of m ≤ length s) facts.is facts.fits
+      pub map_fits : length_of m ≤ length s
+      map_fits = let facts = read_facts s m is_read in subst (λ (n : Map). length_of n ≤ length s) facts.is facts.fits
 
-      module _ (need : ℕ) (stored : need ≡ length_of r.map) where
+      module _ (need : ℕ) (stored : need ≡ length_of m) where
         pub odd : ((length s - need) % 2 ≡ 0 → ⊥) → open_refused (open_fault_numbers Odd) ≡ input_opening s
         unfolding input_opening
         odd h =
             rw (le-leb (length s) most_bytes few, is_read, ← stored, ne_eqb ((length s - need) % 2) 0 h)
 
-        pub opened : (length s - need) % 2 ≡ 0 → record { numbers = 0 ∷ (length s - need) / 2 ∷ []; map = r.map } ≡ input_opening s
+        pub opened : (length s - need) % 2 ≡ 0 → record { numbers = 0 ∷ (length s - need) / 2 ∷ []; map = m } ≡ input_opening s
         unfolding input_opening
         opened h = rw (le-leb (length s) most_bytes few, is_read, ← stored, h)

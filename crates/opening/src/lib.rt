@@ -7,7 +7,7 @@ ghost use Rattle.linemap.specs.Reading.{read_fault_numbers};
 ghost use Rattle.opening.specs.Opening as rules;
 ghost use Rattle.opening.specs.Refusals.{refusal_line};
 
-use linemap::{Map, ReadAnswer, ReadFault};
+use linemap::{Map, ReadFault};
 use text::Line;
 use topology::Fault;
 
@@ -54,12 +54,10 @@ pub fn open(input: &[u8]) -> Opening
     if MOST_BYTES < input.len() {
         return refuse(OpenFault::TooLong);
     }
-    let read = linemap::read(input);
-    let answer = read.answer;
-    if let ReadAnswer::Refused(fault) = answer {
-        return refuse(OpenFault::Unread(fault));
-    }
-    let map = read.map;
+    let map = match linemap::read(input) {
+        Ok(map) => map,
+        Err(fault) => return refuse(OpenFault::Unread(fault)),
+    };
     let before = input.len() - linemap::stored_length(map.classes, map.k);
     if before % 2 != 0 {
         return refuse(OpenFault::Odd);

@@ -7,10 +7,10 @@ use Rattle.opening.proofs.open.Goals as goal
 pub returns-then-input-gt-MOST_BYTES : goal.returns-then-input-gt-MOST_BYTES
 returns-then-input-gt-MOST_BYTES c = c.refuse.ensures ∙ too_long c.args.input.now c.if-input-gt-MOST_BYTES.true
 
-pub returns-in-Refused : goal.returns-in-Refused
-returns-in-Refused c =
-    c.refuse-in-Refused.ensures ∙ unread c.args.input.now c.if-input-gt-MOST_BYTES.false c.read-read.result
-    c.read-read.ensures _ c.in-Refused.is
+pub returns-in-Err : goal.returns-in-Err
+returns-in-Err c =
+    c.refuse-in-Err.ensures ∙ unread c.args.input.now c.if-input-gt-MOST_BYTES.false c.read.result
+    c.read.ensures _ c.in-Err.is
 
 pub overflow_sub-before : goal.overflow_sub-before
 overflow_sub-before c =
@@ -18,20 +18,20 @@ overflow_sub-before c =
       arith,
       c.stored_length.ensures,
       map_fits c.args.input.now c.if-input-gt-MOST_BYTES.false
-          c.read-read.result c.read-read.ensures c.in_default.is,
+          c.read.result c.read.ensures c.in-Ok.map c.in-Ok.is,
     )
 
 pub returns-then-before-ne0 : goal.returns-then-before-ne0
 returns-then-before-ne0 c =
     c.refuse-then-before-ne0.ensures
-    ∙ odd c.args.input.now c.if-input-gt-MOST_BYTES.false c.read-read.result c.read-read.ensures
-    c.in_default.is _
+    ∙ odd c.args.input.now c.if-input-gt-MOST_BYTES.false c.read.result c.read.ensures
+    c.in-Ok.map c.in-Ok.is _
     c.stored_length.ensures
     c.if-before-ne0.true
 
 pub returns : goal.returns
 returns c =
-    opened c.args.input.now c.if-input-gt-MOST_BYTES.false c.read-read.result c.read-read.ensures
-    c.in_default.is _
+    opened c.args.input.now c.if-input-gt-MOST_BYTES.false c.read.result c.read.ensures
+    c.in-Ok.map c.in-Ok.is _
     c.stored_length.ensures
     c.if-before-ne0.false
