@@ -6,7 +6,8 @@ use mathlib.Core.List.{List}
 use Prim.Native.Nat.{ℕ}
 use Rattle.topology.specs.Answer.{accepted, is_accepted}
 use Rattle.finite.specs.Tests.{unless}
-use Rattle.linemap.specs.declared.FreshAnswer.{FreshAnswer}
+use Rattle.std.specs.Prelude.{⊤, Result}
+use Rattle.linemap.specs.declared.FreshFault.{FreshFault}
 use Rattle.linemap.specs.Openings.{fresh_numbers, opening_of}
 use Rattle.schedule.specs.declared.Answer.{Answer}
 use Rattle.schedule.specs.declared.Answer.TheVariants.{Made, Refused}
@@ -26,7 +27,7 @@ module _ {Lent : Type 0} (numbers : List ℕ) (before after : Lent) where
   pub accepted_replaces : (found : Lent) → accepted ≡ numbers → found ≡ after → called 0 found ≡ replacing numbers before after
   accepted_replaces found is same = ap (λ (x : Lent). called 0 x) same ∙ ap (λ (l : List ℕ). replacing l before after) is
 
-pub opened-call : {Net : Type 0} (a : FreshAnswer) (n : ℕ) (net : Net) → n ≡ packed (fresh_numbers a) → called n net ≡ fresh_call (opening_of a net)
+pub opened-call : {Net : Type 0} (a : Result ⊤ FreshFault) (n : ℕ) (net : Net) → n ≡ packed (fresh_numbers a) → called n net ≡ fresh_call (opening_of a net)
 opened-call a n net number = ap (λ (x : ℕ). called x net) number
 
 pub answer-call : {Net : Type 0} (a : Answer) (n : ℕ) (net : Net) → n ≡ packed (answer_numbers a) → called n net ≡ step_call (step_outcome_of a net)

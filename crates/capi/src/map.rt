@@ -9,9 +9,9 @@ ghost use Rattle.capi.specs.Answers.{packed, called};
 ghost use Rattle.capi.specs.Map.{read_call, write_call};
 ghost use Rattle.capi.specs.Internal.Values.{value_of};
 
-use linemap::{FreshAnswer, FreshFault, Map, ReadAnswer, ReadFault, WriteAnswer, WriteFault};
+use linemap::{FreshFault, Map, ReadFault, WriteFault};
 use refusal::Refusal;
-use topology::{Fault, LinksAnswer, Verdict};
+use topology::Fault;
 
 // What a call on a lent map answers, as one number, and the map after it.
 #[derive(Clone, Copy)]
@@ -41,12 +41,12 @@ pub(crate) fn fault(why: Fault) -> u64
     }
 }
 
-fn verdict(answer: Verdict) -> u64
+fn verdict(answer: Result<(), Fault>) -> u64
     ensures { result ≡ packed (verdict_numbers answer) }
 {
     match answer {
-        Verdict::Accepted => 0,
-        Verdict::Refused(why) => fault(why),
+        Ok(()) => 0,
+        Err(why) => fault(why),
     }
 }
 
@@ -60,21 +60,21 @@ fn fresh_fault(why: FreshFault) -> u64
 }
 
 // Whether a net was opened.
-pub(crate) fn opened(answer: FreshAnswer) -> u64
+pub(crate) fn opened(answer: Result<(), FreshFault>) -> u64
     ensures { result ≡ packed (fresh_numbers answer) }
 {
     match answer {
-        FreshAnswer::Opened => 0,
-        FreshAnswer::Refused(why) => fresh_fault(why),
+        Ok(()) => 0,
+        Err(why) => fresh_fault(why),
     }
 }
 
-fn links(answer: LinksAnswer) -> u64
+fn links(answer: Result<u32, Fault>) -> u64
     ensures { result ≡ packed (links_numbers answer) }
 {
     match answer {
-        LinksAnswer::Counted(m) => with_value(0, m),
-        LinksAnswer::Refused(why) => fault(why),
+        Ok(m) => with_value(0, m),
+        Err(why) => fault(why),
     }
 }
 
@@ -101,31 +101,25 @@ fn write_fault(why: WriteFault) -> u64
     }
 }
 
-fn written(answer: WriteAnswer) -> u64
+fn written(answer: Result<usize, WriteFault>) -> u64
     requires { value_of (write_numbers answer) < 4294967296 }
     ensures { result ≡ packed (write_numbers answer) }
 {
     match answer {
-        WriteAnswer::Written(need) => with_value(0, need as u32),
-        WriteAnswer::Refused(why) => write_fault(why),
+        Ok(need) => with_value(0, need as u32),
+        Err(why) => write_fault(why),
     }
 }
 
 fn read(before: Map, bytes: &[u8]) -> Answered
     ensures { called result.answer result.map ≡ read_call bytes.now before }
 {
-    let found = linemap::read(bytes);
-    let answer = found.answer;
-    if let ReadAnswer::Refused(why) = answer {
-        return Answered {
+    match linemap::read(bytes) {
+        Ok(map) => Answered { answer: 0, map },
+        Err(why) => Answered {
             answer: read_fault(why),
             map: before,
-        };
-    }
-    let map = found.map;
-    Answered {
-        answer: 0,
-        map: map,
+        },
     }
 }
 

@@ -1,5 +1,5 @@
 -- `capi::map::links` meets its contract: each case is its number, with its value. Assumes nothing.
 use Rattle.capi.proofs.map.links.Goals as goal
 
-pub returns-in-Counted : goal.returns-in-Counted
-returns-in-Counted c = rw c.in-Counted.is c.with_value.ensures
+pub returns-in-Ok : goal.returns-in-Ok
+returns-in-Ok c = rw c.in-Ok.is c.with_value.ensures
