@@ -4,16 +4,12 @@ use mathlib.Core.Path.{◌≡◌, refl, sym, ap, ◌∙◌}
 use mathlib.Core.Bool.{false}
 use mathlib.Core.List.{List, [], ◌∷◌}
 use Prim.Native.Nat.{ℕ}
-use lib.ListN.{get_or}
-use Rattle.finite.proofs.Cases.{clash}
+use Rattle.std.specs.Prelude.{Result, Ok}
 use Rattle.finite.specs.Links.{links}
 use Rattle.topology.specs.declared.Fault.{Fault}
-use Rattle.topology.specs.declared.LinksAnswer.{LinksAnswer}
-use Rattle.topology.specs.declared.LinksAnswer.TheVariants.{Counted}
-use Rattle.topology.specs.declared.LinksAnswer.TheVariants as links
 use Rattle.topology.specs.Answer.{accepted, is_accepted}
 use Rattle.topology.specs.Acceptance.{linked, verdict_of, links_numbers, links_of}
-use Rattle.topology.proofs.Answers.{fault_refuses}
+use Rattle.topology.proofs.Answers.{links_pins}
 use Rattle.linemap.specs.declared.Map.{Map}
 use Rattle.linemap.specs.Maps.{acceptance, links_in}
 use Rattle.linemap.proofs.Accepted.{map_classes}
@@ -39,13 +35,8 @@ module _ (m : Map) (good : acceptance m ≡ accepted) where
       let whole : verdict_of m.desk m.k m.neighbours ≡ accepted = rw count at good in
       rw (count, whole)
 
-  module _ (a : LinksAnswer) (e : links_numbers a ≡ links_in m) where
-    pub counted : {n : ℕ} → a ≡ Counted n → n ≡ links m.k (linked m.k m.neighbours)
-    counted q = ap (λ (l : List ℕ). get_or l 1 0) (sym (ap links_numbers q) ∙ e ∙ links_are)
-
-    pub not_refused : {P : Type 0} {fault : Fault} → a ≡ links.Refused fault → P
-    not_refused {P} {fault} q =
-        clash (ap is_accepted (sym (ap links_numbers q) ∙ e ∙ links_are)) (fault_refuses fault)
+  pub counted : (a : Result ℕ Fault) → links_numbers a ≡ links_in m → a ≡ Ok (links m.k (linked m.k m.neighbours))
+  counted a e = links_pins a (Ok (links m.k (linked m.k m.neighbours))) (e ∙ links_are)
 
 -- what an opening answers: a map with draws, or a refusal, which is all that is written
 module _ (s : List ℕ) (o : Opening) (e : opened_as o ≡ input_opening s) where

@@ -13,7 +13,8 @@ use Rattle.aggregate.specs.Ways.{summing}
 use Rattle.finite.proofs.Below.{length-tabulate, get_d_tabulate}
 use Rattle.refusal.specs.declared.Refusal.{Refusal}
 use Rattle.linemap.specs.declared.Map.{Map}
-use Rattle.linemap.specs.declared.FreshAnswer.{FreshAnswer}
+use Rattle.std.specs.Prelude.{⊤, Result}
+use Rattle.linemap.specs.declared.FreshFault.{FreshFault}
 use Rattle.linemap.specs.Reading.{ReadOutcome}
 use Rattle.linemap.specs.Openings.{Opening, openable, opening_by, opening_of}
 use Rattle.schedule.specs.declared.Step.{Step}
@@ -97,7 +98,7 @@ pub record Stands (s : List ℕ) (draws : ℕ) (l : List ℕ) (l' : List ℕ) (n
   pub put : Put l 0 (bytes_of (take made (lines_of s))) l' end
 
 -- it starts from the fresh net
-pub stands_first : {s l : List ℕ} {m : Map} {draws : ℕ} {net : Net} (before : Net) (answer : FreshAnswer) → Opens s m draws
+pub stands_first : {s l : List ℕ} {m : Map} {draws : ℕ} {net : Net} (before : Net) (answer : Result ⊤ FreshFault) → Opens s m draws
     → opening_of answer net ≡ meet.rendezvous_opening false summing m before
     → Stands s draws l l net 0 0
 unfolding lines_of lot_lines lines_left openable opening_by flat_map

@@ -20,7 +20,6 @@ use opening::OpenAnswer;
 use schedule::{Answer, Step};
 pub use streams::{Input, run};
 use text::Line;
-use topology::LinksAnswer;
 
 // Room for every output: 64 stations all linked take 4,033 steps, and a closing line.
 pub const OUTPUT_ROOM: usize = 4034 * text::LINE_ROOM;
@@ -95,11 +94,7 @@ fn count_links(m: Map) -> u32
     requires { acceptance m ≡ accepted }
     ensures { result ≡ link_count m }
 {
-    let counted = linemap::links(m);
-    match counted {
-        LinksAnswer::Counted(links) => links,
-        LinksAnswer::Refused(_) => 0,
-    }
+    linemap::links(m).unwrap()
 }
 
 // The closing line of an accepted map's run.

@@ -1,13 +1,17 @@
 -- `program::count_links` meets its contract: the links of an accepted map are counted, never refused. Assumes nothing.
-use Rattle.program.proofs.Answers.{counted, not_refused}
+use mathlib.Core.Path.{refl, sym, ap, ◌∙◌}
+use Prim.Native.Nat.{ℕ}
+use lib.ListN.{get_or}
+use Rattle.std.specs.Prelude.{Result}
+use Rattle.topology.specs.declared.Fault.{Fault}
+use Rattle.topology.specs.Acceptance.{links_numbers}
+use Rattle.program.proofs.Answers.{counted}
 use Rattle.program.proofs.count_links.Goals as goal
 
-pub returns-in-Counted : goal.returns-in-Counted
-returns-in-Counted c =
-    counted c.args.m c.requires _
-    c.links-counted.ensures c.in-Counted.is
+pub unwrap-requires : goal.unwrap-requires
+unwrap-requires c = rw (counted c.args.m c.requires c.links.result c.links.ensures) refl
 
-pub returns-in-Refused : goal.returns-in-Refused
-returns-in-Refused c =
-    not_refused c.args.m c.requires _ c.links-counted.ensures
-    c.in-Refused.is
+pub returns : goal.returns
+returns c =
+    ap (λ (r : Result ℕ Fault). get_or (links_numbers r) 1 0)
+    (sym c.unwrap.ensures ∙ counted c.args.m c.requires c.links.result c.links.ensures)
