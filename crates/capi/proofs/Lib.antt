@@ -1,3 +1,2 @@
-pub mod Lent
 pub mod Calls
 pub mod Maps

@@ -13,13 +13,6 @@ use linemap::{FreshFault, Map, ReadFault, WriteFault};
 use refusal::Refusal;
 use topology::Fault;
 
-// What a call on a lent map answers, as one number, and the map after it.
-#[derive(Clone, Copy)]
-pub struct Answered {
-    pub answer: u64,
-    pub map: Map,
-}
-
 // A number and its value.
 pub(crate) fn with_value(number: u8, value: u32) -> u64
     ensures { result ≡ packed (number ∷ value ∷ []) }
@@ -111,27 +104,18 @@ fn written(answer: Result<usize, WriteFault>) -> u64
     }
 }
 
-fn read(before: Map, bytes: &[u8]) -> Answered
-    ensures { called result.answer result.map ≡ read_call bytes.now before }
-{
-    match linemap::read(bytes) {
-        Ok(map) => Answered { answer: 0, map },
-        Err(why) => Answered {
-            answer: read_fault(why),
-            map: before,
-        },
-    }
-}
-
 // The last map in the bytes.
 #[unsafe(no_mangle)]
 pub extern "C" fn tally_map_read(map: &mut Map, bytes: &[u8]) -> u64
     ensures { called result map.new ≡ read_call bytes.now map.old }
 {
-    let before = *map;
-    let after = read(before, bytes);
-    *map = after.map;
-    after.answer
+    match linemap::read(bytes) {
+        Ok(found) => {
+            *map = found;
+            0
+        },
+        Err(why) => read_fault(why),
+    }
 }
 
 // The stored form of a map, from the first byte.

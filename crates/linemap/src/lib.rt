@@ -149,7 +149,9 @@ pub fn accept(m: Map) -> Result<(), Fault>
     if !aggregate::is_class_count(m.classes as u64) {
         return Err(Fault::Classes);
     }
-    topology::accept(m.desk, m.k, &m.neighbours)
+    // A reference into the map would have all of it copied.
+    let neighbours = m.neighbours;
+    topology::accept(m.desk, m.k, &neighbours)
 }
 
 // Whether a net is opened on a map, to join counts the way: the map's numbers, then 12.
@@ -170,7 +172,9 @@ pub fn links(m: Map) -> Result<u32, Fault>
     if !aggregate::is_class_count(m.classes as u64) {
         return Err(Fault::Classes);
     }
-    topology::links(m.desk, m.k, &m.neighbours)
+    // As in `accept`.
+    let neighbours = m.neighbours;
+    topology::links(m.desk, m.k, &neighbours)
 }
 
 // Whether a lot fits its 48 bits.
