@@ -1,10 +1,10 @@
 // Line maps: read into a lent map, written, accepted and counted.
 ghost use Rattle.std.specs.Prelude.{◌≡◌, [], ◌∷◌, ◌<◌};
-ghost use Rattle.topology.specs.Acceptance.{fault_numbers, verdict_numbers, links_numbers};
+ghost use Rattle.topology.specs.Acceptance.{fault_numbers};
 ghost use Rattle.linemap.specs.Maps.{acceptance, links_in};
 ghost use Rattle.linemap.specs.Openings.{fresh_fault_numbers, fresh_numbers};
 ghost use Rattle.linemap.specs.Reading.{read_fault_numbers};
-ghost use Rattle.linemap.specs.Writing.{write_fault_numbers, write_numbers};
+ghost use Rattle.linemap.specs.Writing.{write_fault_numbers};
 ghost use Rattle.capi.specs.Answers.{packed, called};
 ghost use Rattle.capi.specs.Map.{read_call, write_call};
 ghost use Rattle.capi.specs.Internal.Values.{value_of};
@@ -34,15 +34,6 @@ pub(crate) fn fault(why: Fault) -> u64
     }
 }
 
-fn verdict(answer: Result<(), Fault>) -> u64
-    ensures { result ≡ packed (verdict_numbers answer) }
-{
-    match answer {
-        Ok(()) => 0,
-        Err(why) => fault(why),
-    }
-}
-
 fn fresh_fault(why: FreshFault) -> u64
     ensures { result ≡ packed (fresh_fault_numbers why) }
 {
@@ -59,15 +50,6 @@ pub(crate) fn opened(answer: Result<(), FreshFault>) -> u64
     match answer {
         Ok(()) => 0,
         Err(why) => fresh_fault(why),
-    }
-}
-
-fn links(answer: Result<u32, Fault>) -> u64
-    ensures { result ≡ packed (links_numbers answer) }
-{
-    match answer {
-        Ok(m) => with_value(0, m),
-        Err(why) => fault(why),
     }
 }
 
@@ -94,16 +76,6 @@ fn write_fault(why: WriteFault) -> u64
     }
 }
 
-fn written(answer: Result<usize, WriteFault>) -> u64
-    requires { value_of (write_numbers answer) < 4294967296 }
-    ensures { result ≡ packed (write_numbers answer) }
-{
-    match answer {
-        Ok(need) => with_value(0, need as u32),
-        Err(why) => write_fault(why),
-    }
-}
-
 // The last map in the bytes.
 #[unsafe(no_mangle)]
 pub extern "C" fn tally_map_read(map: &mut Map, bytes: &[u8]) -> u64
@@ -123,8 +95,10 @@ pub extern "C" fn tally_map_read(map: &mut Map, bytes: &[u8]) -> u64
 pub extern "C" fn tally_map_write(map: Map, bytes: &mut [u8]) -> u64
     ensures { called result bytes.new ≡ write_call map bytes.old }
 {
-    let answer = linemap::write(map, bytes);
-    written(answer)
+    match linemap::write(map, bytes) {
+        Ok(need) => with_value(0, need as u32),
+        Err(why) => write_fault(why),
+    }
 }
 
 // The rules on a map.
@@ -132,8 +106,10 @@ pub extern "C" fn tally_map_write(map: Map, bytes: &mut [u8]) -> u64
 pub extern "C" fn tally_map_accept(map: Map) -> u64
     ensures { result ≡ packed (acceptance map) }
 {
-    let answer = linemap::accept(map);
-    verdict(answer)
+    match linemap::accept(map) {
+        Ok(()) => 0,
+        Err(why) => fault(why),
+    }
 }
 
 // The number of links of an accepted map.
@@ -141,6 +117,8 @@ pub extern "C" fn tally_map_accept(map: Map) -> u64
 pub extern "C" fn tally_map_links(map: Map) -> u64
     ensures { result ≡ packed (links_in map) }
 {
-    let answer = linemap::links(map);
-    links(answer)
+    match linemap::links(map) {
+        Ok(count) => with_value(0, count),
+        Err(why) => fault(why),
+    }
 }

@@ -1,11 +1,17 @@
--- `capi::map::tally_map_write` meets its contract: the numbers of `linemap::write`, packed, and the bytes that it leaves. Assumes nothing.
-use mathlib.Core.Path.{◌∙◌, ap, ap₂}
-use Rattle.capi.specs.Answers.{packed, called}
+-- `capi::map::tally_map_write` meets its contract: the numbers of `linemap::write`, packed, whose value fits. Assumes nothing.
+use Prim.Native.Nat.{◌<◌}
+use native.Mathlib.Omega.{arith}
+use Rattle.linemap.specs.Writing.{write_numbers}
+use Rattle.capi.specs.Internal.Values.{value_of}
 use Rattle.capi.proofs.Maps.{writing_small}
 use Rattle.capi.proofs.map.tally_map_write.Goals as goal
+use Rattle.capi.proofs.map.tally_map_write.Goals.{After-write}
 
-pub written-requires : goal.written-requires
-written-requires c = rw c.write-answer.ensures.answer (writing_small _ _)
+value-small : (c : After-write) → value_of (write_numbers c.write.result) < 4294967296
+value-small c = rw c.write.ensures.answer (writing_small _ _)
 
-pub returns : goal.returns
-returns c = ap₂ called (c.written.ensures ∙ ap packed c.write-answer.ensures.answer) c.write-answer.ensures.bytes
+pub overflow_cast-need : goal.overflow_cast-need
+overflow_cast-need c = omega (arith, rw c.in-Ok.is at (value-small (goal.at.overflow_cast-need c).After-write))
+
+pub write_fault-requires : goal.write_fault-requires
+write_fault-requires c = rw c.in-Err.is at (value-small (goal.at.write_fault-requires c).After-write)
