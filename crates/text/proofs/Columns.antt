@@ -1,11 +1,12 @@
 -- A number right-aligned in twenty columns: its digits, put at the end of blanks. Assumes nothing.
 use mathlib.Core.Path.{◌≡◌, refl, ap, ◌∙◌}
 use mathlib.Core.List.{List, [], ◌∷◌, ◌++◌, append-nil}
-use Prim.Native.Nat.{ℕ, zero, suc, ◌+◌, ◌-◌, ◌≤◌}
+use Prim.Native.Nat.{ℕ, zero, suc, ◌-◌, ◌≤◌}
 use Prim.Native.Char.{code}
 use native.Mathlib.Omega.{arith}
-use lib.ListN.{length, take, drop, replicate, drop_of_length-le}
-use lib.Seq.{sets-eq, take-append_seam}
+use lib.ListN.{length, take, drop, replicate, length-drop, length-take, drop_of_length-le}
+use lib.Seq.{take-append_seam}
+use borrow.Rule.Slice.PartMut.{put_mid}
 use Rattle.finite.specs.Internal.Putting.{Room, Put}
 use Rattle.finite.proofs.Stores.{put_front}
 use Rattle.text.specs.Text.{digits, padded}
@@ -27,27 +28,29 @@ module _ (n : ℕ) where
     pub count_le : count ≤ 20
     count_le = omega (arith, p.end, digits_le 20 n)
 
-    pub digits_front : take count l ≡ digits 20 n
+    digits_front : take count l ≡ digits 20 n
     digits_front =
         let front = put_front number_room p in
         ap (λ (m : ℕ). take m l) front.0
         ∙ ap (take (length (digits 20 n))) front.1
         ∙ take-append_seam (digits 20 n) (drop (length (digits 20 n)) blanks)
 
-    pub counted : count ≡ length (take count l)
-    counted = omega (arith, p.end, ap length digits_front)
+    -- left is what the digits were put into
+    module _ {left : List ℕ} (same : left ≡ l) where
+      pub counted : count ≡ length (take count left)
+      counted = omega (arith, p.end, ap length (ap (take count) same ∙ digits_front))
 
-    pub columns_room : Room blanks (20 - count) (take count l)
-    columns_room = record { fits = omega (arith, count_le, p.end, ap length digits_front) }
+      pub count_within : count ≤ length left
+      count_within = omega (arith, counted, length-take count left)
 
-    pub columns_are : {l' : List ℕ} {r : ℕ} → Put blanks (20 - count) (take count l) l' r → l' ≡ padded 20 (digits 20 n)
-    unfolding padded
-    columns_are {l'} q =
-        let word : List ℕ = take count l in
-        let none : drop (20 - count + length word) blanks ≡ [] = drop_of_length-le blanks {i = 20 - count + length word} (omega (arith, count_le, p.end, ap length digits_front)) in
-        q.bytes
-        ∙ sets-eq word blanks (20 - count) columns_room.fits
-        ∙ ap (λ (x : List ℕ). take (20 - count) blanks ++ word ++ x) none
-        ∙ append-nil (take (20 - count) blanks ++ word)
-        ∙ ap (λ (x : List ℕ). x ++ word) (take-replicate (20 - count) 20 (code " ") (omega arith) ∙ ap (λ (m : ℕ). replicate (20 - m) (code " ")) (put_front number_room p).0)
-        ∙ ap (λ (x : List ℕ). replicate (20 - length (digits 20 n)) (code " ") ++ x) digits_front
+      pub columns_are : {copied : List ℕ} → copied ≡ take count left
+          → put_mid (20 - count) (20 - (20 - count)) blanks copied ≡ padded 20 (digits 20 n)
+      unfolding padded
+      columns_are {copied} e =
+          let at : ℕ = 20 - count in
+          let none : drop (20 - at) (drop at blanks) ≡ [] = drop_of_length-le (drop at blanks) {i = 20 - at} (omega (arith, length-drop at blanks)) in
+          ap (put_mid at (20 - at) blanks) (e ∙ ap (take count) same ∙ digits_front)
+          ∙ ap (λ (x : List ℕ). take at blanks ++ (digits 20 n ++ x)) none
+          ∙ ap (λ (x : List ℕ). take at blanks ++ x) (append-nil (digits 20 n))
+          ∙ ap (λ (x : List ℕ). x ++ digits 20 n)
+          (take-replicate at 20 (code " ") (omega arith) ∙ ap (λ (m : ℕ). replicate (20 - m) (code " ")) (put_front number_room p).0)

@@ -32,39 +32,38 @@ unfolding each
 cells-le v zero = omega arith
 cells-le v (suc n) = rw length-append (omega (arith, cells-le v n, cell-le (cell v n)))
 
-module _ (t : Config) (v : Aggregate) where
-  aggregate-le : length (aggregate_text t v) ≤ 336
-  unfolding aggregate_text
-  aggregate-le = omega (arith, cells-le v (used t))
+aggregate-le : (t : Config) (v : Aggregate) → length (aggregate_text t v) ≤ 336
+unfolding aggregate_text
+aggregate-le t v = omega (arith, cells-le v (used t))
 
-  -- every line fits
-  words_le : (line : Line) → length (words_of t v line) < line_room
-  words_le (Wake s r) = rw length-append (omega (arith, item-le (ascii "wake ") s, item-le (ascii " ") r))
-  words_le (Pass s r) = rw length-append (omega (arith, item-le (ascii "pass ") s, item-le (ascii " ") r))
-  words_le (Answer s r) =
-      simp length-append (omega (arith, item-le (ascii "answer ") s, item-le (ascii " ") r, aggregate-le))
-  words_le (Report i) = rw length-append (omega (arith, item-le (ascii "report ") i, aggregate-le))
-  words_le (Closing l n m) =
-      simp length-append (omega (arith, item-le (ascii "lot ") l, item-le (ascii " steps ") n, item-le (ascii " links ") m))
-  words_le (Refused n) = omega (arith, item-le (ascii "refused ") n)
-  words_le (RefusedStation n i) =
-      rw length-append (omega (arith, item-le (ascii "refused ") n, item-le (ascii " station ") i))
+-- every line fits
+words_le : (line : Line) → length (words_of line) < line_room
+words_le (Wake s r) = rw length-append (omega (arith, item-le (ascii "wake ") s, item-le (ascii " ") r))
+words_le (Pass s r) = rw length-append (omega (arith, item-le (ascii "pass ") s, item-le (ascii " ") r))
+words_le (Answer s r t v) =
+    simp length-append (omega (arith, item-le (ascii "answer ") s, item-le (ascii " ") r, aggregate-le t v))
+words_le (Report i t v) = rw length-append (omega (arith, item-le (ascii "report ") i, aggregate-le t v))
+words_le (Closing l n m) =
+    simp length-append (omega (arith, item-le (ascii "lot ") l, item-le (ascii " steps ") n, item-le (ascii " links ") m))
+words_le (Refused n) = omega (arith, item-le (ascii "refused ") n)
+words_le (RefusedStation n i) =
+    rw length-append (omega (arith, item-le (ascii "refused ") n, item-le (ascii " station ") i))
 
-  pub text_le : (line : Line) → length (text_of t v line) ≤ line_room
-  unfolding text_of
-  text_le line = rw length-append (omega (arith, words_le line))
+pub text_le : (line : Line) → length (text_of line) ≤ line_room
+unfolding text_of
+text_le line = rw length-append (omega (arith, words_le line))
 
+module _ (line : Line) where
   -- a buffer with less room than every line needs is left as it was
-  pub line-left : (l : List ℕ) (line : Line) → length l < line_room
-      → (0 ≡ length (text_in (length l) t v line)) × (l ≡ over (text_in (length l) t v line) l)
+  pub line-left : (l : List ℕ) → length l < line_room → (0 ≡ length (text_in (length l) line)) × (l ≡ over (text_in (length l) line) l)
   unfolding text_in
-  line-left l line less = (rw (lt-leb line_room (length l) less), rw (lt-leb line_room (length l) less))
+  line-left l less = (rw (lt-leb line_room (length l) less), rw (lt-leb line_room (length l) less))
 
-  pub line_room_lem : (l : List ℕ) (line : Line) → line_room ≤ length l → Room l 0 (text_of t v line)
-  line_room_lem l line enough = record { fits = omega (arith, text_le line) }
+  pub line_room_lem : (l : List ℕ) → line_room ≤ length l → Room l 0 (text_of line)
+  line_room_lem l enough = record { fits = omega (arith, text_le line) }
 
   -- the whole line from the front
-  pub line-put : {l l' : List ℕ} {r : ℕ} (line : Line) → line_room ≤ length l → Put l 0 (text_of t v line) l' r
-      → (r ≡ length (text_in (length l) t v line)) × (l' ≡ over (text_in (length l) t v line) l)
+  pub line-put : {l l' : List ℕ} {r : ℕ} → line_room ≤ length l → Put l 0 (text_of line) l' r
+      → (r ≡ length (text_in (length l) line)) × (l' ≡ over (text_in (length l) line) l)
   unfolding text_in
-  line-put {l} line enough p = rw (le-leb line_room (length l) enough) (put_front (line_room_lem l line enough) p)
+  line-put {l} enough p = rw (le-leb line_room (length l) enough) (put_front (line_room_lem l enough) p)

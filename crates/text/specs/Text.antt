@@ -35,27 +35,27 @@ cell_text x = item (ascii " ") x.sum ++ item (ascii " ") x.missing
 unfoldable pub aggregate_text : Config → Aggregate → List ℕ
 aggregate_text t v = each (λ i. cell_text (cell v i)) (used t)
 
--- a line, with what an answer or a report carries:
+-- a line, but for its line feed:
 -- "Wake and pass show sender, receiver; answer adds the sum; report shows the desk, the total."
 -- "a closing line with the lot, the steps made and m"
 -- "A refusal prints `refused N`, for 7 to 10 `refused N station I`"
-abbrev pub words_of : Config → Aggregate → Line → List ℕ
-words_of t v (Wake sender receiver) = item (ascii "wake ") sender ++ item (ascii " ") receiver
-words_of t v (Pass sender receiver) = item (ascii "pass ") sender ++ item (ascii " ") receiver
-words_of t v (Answer sender receiver) = item (ascii "answer ") sender ++ item (ascii " ") receiver ++ aggregate_text t v
-words_of t v (Report root) = item (ascii "report ") root ++ aggregate_text t v
-words_of t v (Closing lot steps links) = item (ascii "lot ") lot ++ item (ascii " steps ") steps ++ item (ascii " links ") links
-words_of t v (Refused number) = item (ascii "refused ") number
-words_of t v (RefusedStation number station) = item (ascii "refused ") number ++ item (ascii " station ") station
+abbrev pub words_of : Line → List ℕ
+words_of (Wake sender receiver) = item (ascii "wake ") sender ++ item (ascii " ") receiver
+words_of (Pass sender receiver) = item (ascii "pass ") sender ++ item (ascii " ") receiver
+words_of (Answer sender receiver config held) = item (ascii "answer ") sender ++ item (ascii " ") receiver ++ aggregate_text config held
+words_of (Report root config held) = item (ascii "report ") root ++ aggregate_text config held
+words_of (Closing lot steps links) = item (ascii "lot ") lot ++ item (ascii " steps ") steps ++ item (ascii " links ") links
+words_of (Refused number) = item (ascii "refused ") number
+words_of (RefusedStation number station) = item (ascii "refused ") number ++ item (ascii " station ") station
 
 -- a line ends with a line feed
-unfoldable pub text_of : Config → Aggregate → Line → List ℕ
-text_of t v line = words_of t v line ++ ascii "\n"
+unfoldable pub text_of : Line → List ℕ
+text_of line = words_of line ++ ascii "\n"
 
 -- every line fits into so many bytes
 abbrev pub line_room : ℕ
 line_room = 400
 
 -- what is put into a buffer of n bytes: the line, or nothing where not every line would fit
-unfoldable pub text_in : ℕ → Config → Aggregate → Line → List ℕ
-text_in n t v line = cond (leb line_room n) (text_of t v line) []
+unfoldable pub text_in : ℕ → Line → List ℕ
+text_in n line = cond (leb line_room n) (text_of line) []

@@ -1,23 +1,41 @@
 // The lines of the program's output, as bytes (document 01, "The program").
 #![tactic(auto)]
 
-ghost use Rattle.std.specs.Prelude.{◌≡◌, ◌++◌, length};
-ghost use Rattle.text.specs.Text.{digits, padded, item, cell_text, aggregate_text, words_of, text_in};
+ghost use Rattle.std.specs.Prelude.{◌≡◌, ◌<◌, ◌++◌, length};
+ghost use Rattle.text.specs.Text.{digit, digits, padded, item, cell_text, aggregate_text, words_of, text_in};
+ghost use Rattle.text.specs.Internal.Writing.{Fits, Puts};
 ghost use Rattle.finite.specs.Stores.{over, laid, laid_end};
-ghost use Rattle.finite.specs.Internal.Putting.{Room, Put};
 
 use aggregate::{Aggregate, Cell, Config};
 
-// What an answer or a report carries stands beside its line: an enum holds no array.
+// A line, with all that it shows. An answer and a report carry what the sender holds, of the classes in use under `config`.
 #[derive(Clone, Copy)]
 pub enum Line {
-    // Sender and receiver.
-    Wake(u8, u8),
-    Pass(u8, u8),
-    Answer(u8, u8),
+    Wake {
+        sender: u8,
+        receiver: u8,
+    },
+    Pass {
+        sender: u8,
+        receiver: u8,
+    },
+    Answer {
+        sender: u8,
+        receiver: u8,
+        config: Config,
+        held: Aggregate,
+    },
     // The root (01: the desk).
-    Report(u8),
-    Closing { lot: u64, steps: u64, links: u32 },
+    Report {
+        root: u8,
+        config: Config,
+        held: Aggregate,
+    },
+    Closing {
+        lot: u64,
+        steps: u64,
+        links: u32,
+    },
     Refused(u8),
     RefusedStation(u8, u8),
 }
@@ -27,127 +45,136 @@ pub const LINE_ROOM: usize = 400;
 
 const MOST_DIGITS: u8 = 20;
 
-fn put_word(buf: &mut [u8], at: usize, word: &[u8]) -> usize
-    requires { Room buf.old at word.now }
-    ensures { Put buf.old at word.now buf.new result }
-{
-    let mut i: usize = 0;
-    while i < word.len() {
-        buf[at + i] = word[i];
-        i += 1;
+// A lent buffer, and the place that the next byte goes to.
+#[derive(Drop)]
+struct Writer<'a> {
+    buf: &'a mut [u8],
+    at: usize,
+}
+
+impl Writer<'_> {
+    fn put_word(&mut self, word: &[u8])
+        requires { Fits self.old word.now }
+        ensures { Puts self.old word.now self.new }
+    {
+        let end = self.at + word.len();
+        self.buf[self.at..end].copy_from_slice(word);
+        self.at = end;
     }
-    at + i
-}
 
-// n in decimal, by at most `most` digits.
-fn put_number(buf: &mut [u8], at: usize, n: u64, most: u8) -> usize
-    requires { Room buf.old at (digits most n) }
-    ensures { Put buf.old at (digits most n) buf.new result }
-{
-    if most == 0 {
-        return at;
+    fn put_digit(&mut self, d: u8)
+        requires room { Fits self.old (digit d) }
+        requires below { d < 10 }
+        ensures { Puts self.old (digit d) self.new }
+    {
+        self.buf[self.at] = b'0' + d;
+        self.at += 1;
     }
-    if n < 10 {
-        buf[at] = b'0' + n as u8;
-        return at + 1;
+
+    // n in decimal, by at most `most` digits.
+    fn put_number(&mut self, n: u64, most: u8)
+        requires { Fits self.old (digits most n) }
+        ensures { Puts self.old (digits most n) self.new }
+    {
+        if most == 0 {
+            return;
+        }
+        if n < 10 {
+            self.put_digit(n as u8);
+            return;
+        }
+        self.put_number(n / 10, most - 1);
+        self.put_digit((n % 10) as u8);
     }
-    let last = put_number(buf, at, n / 10, most - 1);
-    buf[last] = b'0' + (n % 10) as u8;
-    last + 1
-}
 
-// A word, then a number.
-fn put_item(buf: &mut [u8], at: usize, word: &[u8], n: u64) -> usize
-    requires { Room buf.old at (item word.now n) }
-    ensures { Put buf.old at (item word.now n) buf.new result }
-{
-    let end = put_word(buf, at, word);
-    put_number(buf, end, n, MOST_DIGITS)
-}
-
-// Two words, each with a number.
-fn put_two(buf: &mut [u8], at: usize, a: &[u8], x: u64, b: &[u8], y: u64) -> usize
-    requires { Room buf.old at (item a.now x ++ item b.now y) }
-    ensures { Put buf.old at (item a.now x ++ item b.now y) buf.new result }
-{
-    let end = put_item(buf, at, a, x);
-    put_item(buf, end, b, y)
-}
-
-// One class: its sum, then its missing number.
-fn put_cell(buf: &mut [u8], at: usize, x: Cell) -> usize
-    requires { Room buf.old at (cell_text x) }
-    ensures { Put buf.old at (cell_text x) buf.new result }
-{
-    let sum = x.sum;
-    let missing = x.missing as u64;
-    put_two(buf, at, b" ", sum, b" ", missing)
-}
-
-// What an answer or a report carries: each class in use, in turn.
-fn put_aggregate(buf: &mut [u8], at: usize, t: Config, v: Aggregate) -> usize
-    requires { Room buf.old at (aggregate_text t v) }
-    ensures { Put buf.old at (aggregate_text t v) buf.new result }
-{
-    let classes = aggregate::count_used(t);
-    let mut end = at;
-    let mut class: usize = 0;
-    while class < classes {
-        end = put_cell(buf, end, aggregate::class_of(v, class));
-        class += 1;
+    // A word, then a number.
+    fn put_item(&mut self, word: &[u8], n: u64)
+        requires { Fits self.old (item word.now n) }
+        ensures { Puts self.old (item word.now n) self.new }
+    {
+        self.put_word(word);
+        self.put_number(n, MOST_DIGITS);
     }
-    end
-}
 
-// The line, but for its line feed.
-fn put_words(buf: &mut [u8], line: Line, t: Config, v: Aggregate) -> usize
-    requires { Room buf.old 0 (words_of t v line) }
-    ensures { Put buf.old 0 (words_of t v line) buf.new result }
-{
-    match line {
-        Line::Wake(sender, receiver) => {
-            put_two(buf, 0, b"wake ", sender as u64, b" ", receiver as u64)
+    // Two words, each with a number.
+    fn put_two(&mut self, a: &[u8], x: u64, b: &[u8], y: u64)
+        requires { Fits self.old (item a.now x ++ item b.now y) }
+        ensures { Puts self.old (item a.now x ++ item b.now y) self.new }
+    {
+        self.put_item(a, x);
+        self.put_item(b, y);
+    }
+
+    // One class: its sum, then its missing number.
+    fn put_cell(&mut self, x: Cell)
+        requires { Fits self.old (cell_text x) }
+        ensures { Puts self.old (cell_text x) self.new }
+    {
+        self.put_two(b" ", x.sum, b" ", x.missing as u64);
+    }
+
+    // What an answer or a report carries: each class in use, in turn.
+    fn put_aggregate(&mut self, t: Config, v: Aggregate)
+        requires { Fits self.old (aggregate_text t v) }
+        ensures { Puts self.old (aggregate_text t v) self.new }
+    {
+        for class in 0..aggregate::count_used(t) {
+            self.put_cell(aggregate::class_of(v, class));
         }
-        Line::Pass(sender, receiver) => {
-            put_two(buf, 0, b"pass ", sender as u64, b" ", receiver as u64)
-        }
-        Line::Answer(sender, receiver) => {
-            let end = put_two(buf, 0, b"answer ", sender as u64, b" ", receiver as u64);
-            put_aggregate(buf, end, t, v)
-        }
-        Line::Report(root) => {
-            let end = put_item(buf, 0, b"report ", root as u64);
-            put_aggregate(buf, end, t, v)
-        }
-        Line::Closing { lot, steps, links } => {
-            let end = put_two(buf, 0, b"lot ", lot, b" steps ", steps);
-            put_item(buf, end, b" links ", links as u64)
-        }
-        Line::Refused(number) => put_item(buf, 0, b"refused ", number as u64),
-        Line::RefusedStation(number, station) => {
-            put_two(
-                buf,
-                0,
+    }
+
+    // The line, but for its line feed.
+    fn put_words(&mut self, line: Line)
+        requires { Fits self.old (words_of line) }
+        ensures { Puts self.old (words_of line) self.new }
+    {
+        match line {
+            Line::Wake { sender, receiver } => {
+                self.put_two(b"wake ", sender as u64, b" ", receiver as u64)
+            }
+            Line::Pass { sender, receiver } => {
+                self.put_two(b"pass ", sender as u64, b" ", receiver as u64)
+            }
+            Line::Answer {
+                sender,
+                receiver,
+                config,
+                held,
+            } => {
+                self.put_two(b"answer ", sender as u64, b" ", receiver as u64);
+                self.put_aggregate(config, held)
+            }
+            Line::Report { root, config, held } => {
+                self.put_item(b"report ", root as u64);
+                self.put_aggregate(config, held)
+            }
+            Line::Closing { lot, steps, links } => {
+                self.put_two(b"lot ", lot, b" steps ", steps);
+                self.put_item(b" links ", links as u64)
+            }
+            Line::Refused(number) => self.put_item(b"refused ", number as u64),
+            Line::RefusedStation(number, station) => self.put_two(
                 b"refused ",
                 number as u64,
                 b" station ",
                 station as u64,
-            )
+            ),
         }
     }
 }
 
-// Puts the line at the start of buf and answers its length: v is what an answer or a report carries, of the classes in use under t, and
-// other lines don't look at it. A buf of under 400 bytes is left as it was, and the answer is 0.
-pub fn put_line(buf: &mut [u8], line: Line, t: Config, v: Aggregate) -> usize
-    ensures count { result ≡ length (text_in (length buf.old) t v line) }
-    ensures bytes { buf.new ≡ over (text_in (length buf.old) t v line) buf.old }
+// Puts the line at the start of buf and answers its length. A buf of under 400 bytes is left as it was, and the answer is 0.
+pub fn put_line(buf: &mut [u8], line: Line) -> usize
+    ensures count { result ≡ length (text_in (length buf.old) line) }
+    ensures bytes { buf.new ≡ over (text_in (length buf.old) line) buf.old }
 {
     if buf.len() < LINE_ROOM {
         return 0;
     }
-    let end = put_words(buf, line, t, v);
-    put_word(buf, end, b"\n")
+    let mut writer = Writer { buf: buf, at: 0 };
+    writer.put_words(line);
+    writer.put_word(b"\n");
+    writer.at
 }
 
 // Puts the bytes of word from `at` on, and answers the place after them. A buf without room for them is left as it was, and the answer is `at`.
@@ -155,13 +182,12 @@ pub fn put_bytes(buf: &mut [u8], at: usize, word: &[u8]) -> usize
     ensures end { result ≡ laid_end buf.old at word.now }
     ensures bytes { buf.new ≡ laid buf.old at word.now }
 {
-    if buf.len() < at {
+    if buf.len() < at || buf.len() - at < word.len() {
         return at;
     }
-    if buf.len() - at < word.len() {
-        return at;
-    }
-    put_word(buf, at, word)
+    let mut writer = Writer { buf: buf, at: at };
+    writer.put_word(word);
+    writer.at
 }
 
 // n in decimal, right-aligned in 20 columns.
@@ -169,8 +195,13 @@ pub fn align(n: u64) -> [u8; 20]
     ensures { result ≡ padded 20 (digits 20 n) }
 {
     let mut left = [b' '; 20];
-    let count = put_number(&mut left, 0, n, MOST_DIGITS);
+    let mut writer = Writer {
+        buf: &mut left,
+        at: 0,
+    };
+    writer.put_number(n, MOST_DIGITS);
+    let count = writer.at;
     let mut columns = [b' '; 20];
-    let end = put_word(&mut columns, 20 - count, &left[..count]);
+    columns[20 - count..].copy_from_slice(&left[..count]);
     columns
 }

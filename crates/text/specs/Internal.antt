@@ -1,0 +1,2 @@
+-- Definitions that only code and proofs use: no public contract and no claim needs them.
+pub mod Writing
