@@ -1,5 +1,5 @@
 -- What the program's input opens (document 01, "The program": "Standard input is draws, 2 bytes each, then a map").
-use Rattle.std.specs.Prelude.{List, [], ◌∷◌, ℕ, ◌*◌, ◌-◌, ◌/◌, ◌%◌, leb, eqb, length}
+use Rattle.std.specs.Prelude.{List, [], ◌∷◌, ℕ, ◌*◌, ◌-◌, ◌/◌, ◌%◌, leb, eqb, length, Result, Ok, Err}
 use Rattle.finite.specs.Below.{tabulate}
 use Rattle.topology.specs.Answer.{is_accepted}
 use Rattle.finite.specs.Tests.{unless}
@@ -9,8 +9,6 @@ use Rattle.linemap.specs.Stored.{length_of}
 use Rattle.linemap.specs.Reading.{read_fault_numbers, ReadOutcome, empty_map, reading}
 use Rattle.opening.specs.declared.OpenFault.{OpenFault}
 use Rattle.opening.specs.declared.OpenFault.TheVariants.{TooLong, Unread, Odd}
-use Rattle.opening.specs.declared.OpenAnswer.{OpenAnswer}
-use Rattle.opening.specs.declared.OpenAnswer.TheVariants.{Opened, Refused}
 use Rattle.opening.specs.declared.Opening.{Opening}
 
 -- "Causes and numbers": the number of each refusal, with its values
@@ -19,18 +17,19 @@ open_fault_numbers TooLong = 17 ∷ []
 open_fault_numbers (Unread fault) = read_fault_numbers fault
 open_fault_numbers Odd = 16 ∷ []
 
--- 0 and the number of draws where nothing is refused
-abbrev pub open_numbers : OpenAnswer → List ℕ
-open_numbers (Opened draws) = 0 ∷ draws ∷ []
-open_numbers (Refused fault) = open_fault_numbers fault
-
--- what an opening comes to: the number with its values, and the map
-abbrev pub open_outcome_of : Opening → ReadOutcome
-open_outcome_of o = record { numbers = open_numbers o.answer; map = o.map }
-
 -- a refusal opens no map
 abbrev pub open_refused : List ℕ → ReadOutcome
 open_refused numbers = record { numbers = numbers; map = empty_map }
+
+-- 0 and the number of draws where nothing is refused
+abbrev pub open_numbers : Result Opening OpenFault → List ℕ
+open_numbers (Ok o) = 0 ∷ o.draws ∷ []
+open_numbers (Err fault) = open_fault_numbers fault
+
+-- what an opening comes to: the number with its values, and the map
+abbrev pub open_outcome_of : Result Opening OpenFault → ReadOutcome
+open_outcome_of (Ok o) = record { numbers = open_numbers (Ok o); map = o.map }
+open_outcome_of (Err fault) = open_refused (open_fault_numbers fault)
 
 -- "input above 65,536 bytes"
 abbrev pub most_bytes : ℕ

@@ -6,6 +6,7 @@ ghost use Rattle.topology.specs.Acceptance.{fault_numbers};
 ghost use Rattle.linemap.specs.Reading.{read_fault_numbers};
 ghost use Rattle.opening.specs.Opening as rules;
 ghost use Rattle.opening.specs.Refusals.{refusal_line};
+ghost use Rattle.opening.specs.declared.OpenFault.{OpenFault};
 
 use linemap::{Map, ReadFault};
 use text::Line;
@@ -15,7 +16,7 @@ use topology::Fault;
 pub const MOST_BYTES: usize = 65536;
 
 // Why nothing is opened.
-#[derive(Clone, Copy)]
+#[derive(Clone, Copy, Debug, PartialEq, Eq)]
 pub enum OpenFault {
     // More bytes than the program takes.
     TooLong,
@@ -24,55 +25,44 @@ pub enum OpenFault {
     Odd,
 }
 
-// The number of draws before the map.
-#[derive(Clone, Copy)]
-pub enum OpenAnswer {
-    Opened(u16),
-    Refused(OpenFault),
+impl From<ReadFault> for OpenFault {
+    ghost from_gives = { λ fault r. r ≡ OpenFault.Unread fault };
+
+    fn from(fault: ReadFault) -> OpenFault {
+        OpenFault::Unread(fault)
+    }
 }
 
-// The answer, and the map, which is all zero after a refusal.
+// The map, and the number of draws before it.
 #[derive(Clone, Copy)]
 pub struct Opening {
-    pub answer: OpenAnswer,
+    pub draws: u16,
     pub map: Map,
 }
 
-fn refuse(fault: OpenFault) -> Opening
-    ensures { rules.open_outcome_of result ≡ rules.open_refused (rules.open_fault_numbers fault) }
-{
-    Opening {
-        answer: OpenAnswer::Refused(fault),
-        map: linemap::empty(),
-    }
-}
-
 // The map at the end of the input and the draws before it: the rules 17, 1 to 10 with 19 after 3, 16.
-pub fn open(input: &[u8]) -> Opening
+pub fn open(input: &[u8]) -> Result<Opening, OpenFault>
     ensures { rules.open_outcome_of result ≡ rules.input_opening input.now }
 {
     if MOST_BYTES < input.len() {
-        return refuse(OpenFault::TooLong);
+        return Err(OpenFault::TooLong);
     }
-    let map = match linemap::read(input) {
-        Ok(map) => map,
-        Err(fault) => return refuse(OpenFault::Unread(fault)),
-    };
+    let map = linemap::read(input)?;
     let before = input.len() - linemap::stored_length(map.classes, map.k);
     if before % 2 != 0 {
-        return refuse(OpenFault::Odd);
+        return Err(OpenFault::Odd);
     }
-    Opening {
-        answer: OpenAnswer::Opened((before / 2) as u16),
+    Ok(Opening {
+        draws: (before / 2) as u16,
         map: map,
-    }
+    })
 }
 
 // A byte of s; 0 past its end.
-fn byte_at(s: &[u8], at: usize) -> u16
-    ensures { (result ≡ get_or s.now at 0) × (result < 256) }
+fn byte_at(s: &[u8], at: usize) -> u8
+    ensures { result ≡ get_or s.now at 0 }
 {
-    if at < s.len() { s[at] as u16 } else { 0 }
+    s.get(at).copied().unwrap_or(0)
 }
 
 // Draw i of the input, counted from 0. A byte past the input's end counts 0.
@@ -80,7 +70,7 @@ pub fn draw_at(input: &[u8], i: u16) -> u16
     ensures { result ≡ rules.draw_at input.now i }
 {
     let at = 2 * (i as usize);
-    byte_at(input, at) + 256 * byte_at(input, at + 1)
+    u16::from_le_bytes([byte_at(input, at), byte_at(input, at + 1)])
 }
 
 fn fault_line(fault: Fault) -> Line

@@ -24,6 +24,7 @@ use Rattle.rendezvous.specs.Net.{Net}
 use Rattle.rendezvous.specs.Rules.{rules}
 use Rattle.rendezvous.specs.Opening.{fresh_on}
 use Rattle.order.proofs.RendezvousOrder.{rendezvous_order}
+use Rattle.opening.specs.declared.Opening.{Opening}
 use Rattle.opening.specs.Opening.{draws_in}
 use Rattle.program.specs.Output.{step_lines, closing_line, lot_lines, lines_of, most_lines}
 use Rattle.program.specs.Internal.Filling.{Opens}
@@ -45,10 +46,11 @@ unfolding step_lines
 length-steps net [] = refl
 length-steps net (s ∷ made) = ap suc (length-steps (rules.apply net s) made)
 
-pub few_lines : {s : List ℕ} {m : Map} {draws : ℕ} → Opens s m draws → Fits m → length (lines_of s) ≤ most_lines
+pub few_lines : {s : List ℕ} {opened : Opening} → Opens s opened → Fits opened.map → length (lines_of s) ≤ most_lines
 unfolding lines_of lot_lines
-few_lines {s} {m} {draws} o fits =
-    let ds : List ℕ = draws_in s draws in
+few_lines {s} {opened} o fits =
+    let m : Map = opened.map in
+    let ds : List ℕ = draws_in s opened.draws in
     let made : List Step = run_made rules (fresh_on false summing m) ds in
     let k_most = (map_web m (ap is_accepted o.good)).few_stations in
     rw o.opens (omega (

@@ -8,16 +8,15 @@ use lib.ListN.{length, take, length-take}
 use lib.Seq.{take_all}
 use borrow.Author.Tests.{leb-true, leb-false}
 use Rattle.finite.proofs.Cases.{by_bool}
-use Rattle.linemap.specs.Reading.{empty_map}
 use Rattle.opening.specs.declared.OpenFault.TheVariants.{TooLong}
 use Rattle.opening.specs.Opening.{open_fault_numbers, most_bytes}
 use Rattle.opening.specs.Refusals.{refusal_line}
 use Rattle.opening.proofs.Rules.{too_long}
-use Rattle.program.specs.Output.{plain, lines_of}
+use Rattle.program.specs.Output.{lines_of}
 use Rattle.program.specs.Internal.Filling.{bytes_of}
 use Rattle.program.specs.Running.{input_room, FrontEnough}
 
-long_refused : (s : List ℕ) → most_bytes < length s → lines_of s ≡ plain empty_map (refusal_line (open_fault_numbers TooLong)) ∷ []
+long_refused : (s : List ℕ) → most_bytes < length s → lines_of s ≡ refusal_line (open_fault_numbers TooLong) ∷ []
 unfolding lines_of
 long_refused s h = rw (← too_long s h)
 

@@ -7,42 +7,38 @@ use native.Mathlib.Omega.{arith}
 use lib.ListN.{length, take, drop, length-append, length-drop, drop_of_length-le}
 use lib.Seq.{take_all, take-add, drop-drop, sets-eq}
 use borrow.Author.Tests.{le-leb}
-use Rattle.text.specs.Text.{line_room, text_in}
+use Rattle.text.specs.Text.{line_room, text_of, text_in}
 use Rattle.finite.specs.Stores.{over}
 use Rattle.finite.specs.Internal.Putting.{Put}
 use Rattle.text.proofs.Lines.{text_le}
-use Rattle.program.specs.declared.Shown.{Shown}
-use Rattle.program.specs.Output.{shown_text}
+use Rattle.text.specs.declared.Line.{Line}
 use Rattle.program.specs.Internal.Filling.{bytes_of}
 
-pub shown-le : (line : Shown) → length (shown_text line) ≤ line_room
-shown-le line = text_le line.config line.held line.line
-
-pub bytes_le : (lines : List Shown) → length (bytes_of lines) ≤ length lines * line_room
+pub bytes_le : (lines : List Line) → length (bytes_of lines) ≤ length lines * line_room
 unfolding flat_map
 bytes_le [] = omega arith
-bytes_le (line ∷ lines) = omega (arith, length-append (shown_text line) (bytes_of lines), shown-le line, bytes_le lines)
+bytes_le (line ∷ lines) = omega (arith, length-append (text_of line) (bytes_of lines), text_le line, bytes_le lines)
 
-bytes-append : (a b : List Shown) → bytes_of (a ++ b) ≡ bytes_of a ++ bytes_of b
+bytes-append : (a b : List Line) → bytes_of (a ++ b) ≡ bytes_of a ++ bytes_of b
 unfolding flat_map
 bytes-append [] b = refl
 bytes-append (line ∷ a) b =
-    ap (λ (l : List ℕ). shown_text line ++ l) (bytes-append a b) ∙ sym (append_assoc (shown_text line) (bytes_of a) (bytes_of b))
+    ap (λ (l : List ℕ). text_of line ++ l) (bytes-append a b) ∙ sym (append_assoc (text_of line) (bytes_of a) (bytes_of b))
 
-pub bytes_one : (line : Shown) → bytes_of (line ∷ []) ≡ shown_text line
+pub bytes_one : (line : Line) → bytes_of (line ∷ []) ≡ text_of line
 unfolding flat_map
-bytes_one line = append-nil (shown_text line)
+bytes_one line = append-nil (text_of line)
 
 -- one line more
-pub bytes_next : (i : ℕ) (lines : List Shown) {line : Shown} {after : List Shown} → drop i lines ≡ line ∷ after
-    → bytes_of (take (i + 1) lines) ≡ bytes_of (take i lines) ++ shown_text line
+pub bytes_next : (i : ℕ) (lines : List Line) {line : Line} {after : List Line} → drop i lines ≡ line ∷ after
+    → bytes_of (take (i + 1) lines) ≡ bytes_of (take i lines) ++ text_of line
 bytes_next i lines {line} e =
-    ap bytes_of (take-add i 1 lines ∙ ap (λ (l : List Shown). take i lines ++ take 1 l) e)
+    ap bytes_of (take-add i 1 lines ∙ ap (λ (l : List Line). take i lines ++ take 1 l) e)
     ∙ bytes-append (take i lines) (line ∷ [])
     ∙ ap (λ (l : List ℕ). bytes_of (take i lines) ++ l) (bytes_one line)
 
 -- a line that was put into the part of a buffer from `at` on
-module _ (l : List ℕ) (at : ℕ) (line : Shown) (enough : at + line_room ≤ length l) where
+module _ (l : List ℕ) (at : ℕ) (line : Line) (enough : at + line_room ≤ length l) where
   -- the part, as the code lends it
   abbrev part : List ℕ
   part = take (length l - at) (drop at l)
@@ -50,18 +46,18 @@ module _ (l : List ℕ) (at : ℕ) (line : Shown) (enough : at + line_room ≤ l
   part-is : part ≡ drop at l
   part-is = take_all (length l - at) (drop at l) (omega (arith, length-drop at l))
 
-  whole-line : text_in (length part) line.config line.held line.line ≡ shown_text line
+  whole-line : text_in (length part) line ≡ text_of line
   unfolding text_in
   whole-line = rw (le-leb line_room (length part) (omega (arith, ap length part-is, length-drop at l)))
 
-  module _ {n : ℕ} (count : n ≡ length (text_in (length part) line.config line.held line.line)) where
+  module _ {n : ℕ} (count : n ≡ length (text_in (length part) line)) where
     pub count_le : n ≤ line_room
-    count_le = omega (arith, count, ap length whole-line, shown-le line)
+    count_le = omega (arith, count, ap length whole-line, text_le line)
 
-    pub line-put-at : {after : List ℕ} → after ≡ over (text_in (length part) line.config line.held line.line) part
-        → Put l at (shown_text line) (take at l ++ (after ++ drop (length l - at) (drop at l))) (at + n)
+    pub line-put-at : {after : List ℕ} → after ≡ over (text_in (length part) line) part
+        → Put l at (text_of line) (take at l ++ (after ++ drop (length l - at) (drop at l))) (at + n)
     line-put-at {after} bytes =
-        let text : List ℕ = shown_text line in
+        let text : List ℕ = text_of line in
         let none : drop (length l - at) (drop at l) ≡ [] =
         drop_of_length-le (drop at l) {i = length l - at} (omega (arith, length-drop at l)) in
         let rest : after ++ drop (length l - at) (drop at l) ≡ text ++ drop (at + length text) l =
@@ -75,6 +71,6 @@ module _ (l : List ℕ) (at : ℕ) (line : Shown) (enough : at + line_room ≤ l
           bytes =
               ap (λ (x : List ℕ). take at l ++ x) rest
               ∙ sym (append_assoc (take at l) text (drop (at + length text) l))
-              ∙ sym (sets-eq text l at (omega (arith, shown-le line)));
+              ∙ sym (sets-eq text l at (omega (arith, text_le line)));
           end = omega (arith, count, ap length whole-line);
         }

@@ -10,10 +10,12 @@ use borrow.Author.Tests.{lt-leb, le-leb}
 use Rattle.finite.specs.Stores.{over}
 use Rattle.finite.specs.Internal.Putting.{Put}
 use Rattle.finite.proofs.Stores.{put_front}
-use Rattle.program.specs.declared.Shown.{Shown}
-use Rattle.program.specs.Output.{shown_text, lines_of, output_of, output_room, output_in}
+use Rattle.text.specs.declared.Line.{Line}
+use Rattle.text.specs.Text.{text_of}
+use Rattle.text.proofs.Lines.{text_le}
+use Rattle.program.specs.Output.{lines_of, output_of, output_room, output_in}
 use Rattle.program.specs.Internal.Filling.{Filled, bytes_of}
-use Rattle.program.proofs.Lines.{shown-le, bytes_one}
+use Rattle.program.proofs.Lines.{bytes_one}
 
 module _ (s l : List ℕ) where
   pub output_left : length l < output_room → (0 ≡ length (output_in (length l) s)) × (l ≡ over (output_in (length l) s) l)
@@ -26,10 +28,10 @@ module _ (s l : List ℕ) where
     output_put f = rw (le-leb output_room (length l) enough) (put_front f.room f.put)
 
     -- one line that is all
-    pub line_fills : {line : Shown} → lines_of s ≡ line ∷ [] → Put l 0 (shown_text line) l' r → Filled s l l' r
+    pub line_fills : {line : Line} → lines_of s ≡ line ∷ [] → Put l 0 (text_of line) l' r → Filled s l l' r
     line_fills {line} alone p =
-        let all : shown_text line ≡ output_of s = sym (ap bytes_of alone ∙ bytes_one line) in
-        record { room = record { fits = omega (arith, ap length all, shown-le line) }; put = rw all at p }
+        let all : text_of line ≡ output_of s = sym (ap bytes_of alone ∙ bytes_one line) in
+        record { room = record { fits = omega (arith, ap length all, text_le line) }; put = rw all at p }
 
 -- and is read back there
 module _ (s l : List ℕ) {l' : List ℕ} {r : ℕ} (count : r ≡ length (output_in (length l) s)) (put : l' ≡ over (output_in (length l) s) l) where

@@ -8,29 +8,20 @@ ghost use Rattle.std.specs.Prelude.{◌≡◌, List, ℕ, ◌+◌, ◌<◌, ◌�
 ghost use Rattle.topology.specs.Answer.{accepted};
 ghost use Rattle.linemap.specs.Maps.{acceptance, link_count};
 ghost use Rattle.rendezvous.specs.Net.{net_in};
-ghost use Rattle.text.specs.Text.{line_room};
 ghost use Rattle.finite.specs.Stores.{over};
 ghost use Rattle.finite.specs.Internal.Putting.{Put};
-ghost use Rattle.program.specs.Output.{shown_text, step_line, step_shown, plain, closing_line, output_room, output_in};
+ghost use Rattle.text.specs.Text.{text_of, line_room};
+ghost use Rattle.program.specs.Output.{step_line, closing_line, output_room, output_in};
 ghost use Rattle.program.specs.Internal.Filling.{Opens, Roomy, StepsPut, Filled};
 
-use aggregate::{Aggregate, Config};
 use linemap::Map;
-use opening::OpenAnswer;
+use opening::Opening;
 use schedule::{Answer, Step};
-pub use streams::{Input, run};
+pub use streams::run;
 use text::Line;
 
 // Room for every output: 64 stations all linked take 4,033 steps, and a closing line.
 pub const OUTPUT_ROOM: usize = 4034 * text::LINE_ROOM;
-
-// A line, and beside it what an answer or a report carries, of the classes in use under `config`.
-#[derive(Clone, Copy)]
-pub struct Shown {
-    pub line: Line,
-    pub config: Config,
-    pub held: Aggregate,
-}
 
 // How many steps were made, and the place after their lines.
 #[derive(Clone, Copy)]
@@ -40,52 +31,41 @@ struct Steps {
 }
 
 // Puts a line from `at` on, and answers the place after it.
-fn put_line_at(out: &mut [u8], at: usize, shown: Shown) -> usize
+fn put_line_at(out: &mut [u8], at: usize, line: Line) -> usize
     requires { at + line_room ≤ length out.old }
-    ensures { Put out.old at (shown_text shown) out.new result }
+    ensures { Put out.old at (text_of line) out.new result }
 {
-    let line = shown.line;
-    let config = shown.config;
-    let held = shown.held;
-    let n = text::put_line(&mut out[at..], line, config, held);
-    at + n
+    at + text::put_line(&mut out[at..], line)
 }
 
-// The line of a step.
-fn step_line(step: Step) -> Line
-    ensures { result ≡ step_line step }
-{
-    let kind = step.kind;
-    match kind {
-        rendezvous::WAKE => Line::Wake(step.sender, step.receiver),
-        rendezvous::PASS => Line::Pass(step.sender, step.receiver),
-        rendezvous::ANSWER => Line::Answer(step.sender, step.receiver),
-        _ => Line::Report(step.sender),
-    }
-}
-
-// The line of a step in this net, beside what its sender holds.
-fn show_step(net: &[u64; 705], step: Step) -> Shown
+// The line of a step in this net: an answer and a report carry what their sender holds.
+fn step_line(net: &[u64; 705], step: Step) -> Line
     requires { step.sender < 64 }
-    ensures { (kept : List ℕ) → result ≡ step_shown (net_in net.now kept) step }
+    ensures { (kept : List ℕ) → result ≡ step_line (net_in net.now kept) step }
 {
+    let config = stations::config_in(net);
     let sender = stations::load(net, step.sender);
     let held = sender.held;
-    Shown {
-        line: step_line(step),
-        config: stations::config_in(net),
-        held: held,
-    }
-}
-
-// A line that carries nothing.
-fn plain(m: Map, line: Line) -> Shown
-    ensures { result ≡ plain m line }
-{
-    Shown {
-        line: line,
-        config: linemap::config(m, aggregate::SUMMING),
-        held: aggregate::empty(),
+    match step.kind {
+        rendezvous::WAKE => Line::Wake {
+            sender: step.sender,
+            receiver: step.receiver,
+        },
+        rendezvous::PASS => Line::Pass {
+            sender: step.sender,
+            receiver: step.receiver,
+        },
+        rendezvous::ANSWER => Line::Answer {
+            sender: step.sender,
+            receiver: step.receiver,
+            config: config,
+            held: held,
+        },
+        _ => Line::Report {
+            root: step.sender,
+            config: config,
+            held: held,
+        },
     }
 }
 
@@ -98,52 +78,52 @@ fn count_links(m: Map) -> u32
 }
 
 // The closing line of an accepted map's run.
-fn closing_line(m: Map, steps: u16) -> Shown
+fn closing_line(m: Map, steps: u16) -> Line
     requires { acceptance m ≡ accepted }
     ensures { result ≡ closing_line m steps }
 {
-    let line = Line::Closing {
+    Line::Closing {
         lot: m.lot,
         steps: steps as u64,
         links: count_links(m),
-    };
-    plain(m, line)
+    }
 }
 
 // Puts the lines of the steps, until the draws are used up or the net is quiescent (01: at rest).
-fn put_steps(input: &[u8], m: Map, draws: u16, out: &mut [u8]) -> Steps
-    requires opens { Opens input.now m draws }
+fn put_steps(input: &[u8], opened: Opening, out: &mut [u8]) -> Steps
+    requires opens { Opens input.now opened }
     requires roomy { Roomy input.now out.old }
     ensures { StepsPut input.now out.old result.made result.end out.new }
 {
     let mut net = [0u64; 705];
     let mut totals = [0u64; 576];
-    let opened = rendezvous::fresh(m, aggregate::SUMMING, false, &mut net, &mut totals);
-    let mut made: u16 = 0;
+    let _ = rendezvous::fresh(opened.map, aggregate::SUMMING, false, &mut net, &mut totals);
     let mut end: usize = 0;
-    while made < draws {
+    for made in 0..opened.draws {
         let here = net;
         let answer = rendezvous::draw(&mut net, &mut totals, opening::draw_at(input, made));
         let Answer::Made(step) = answer else {
-            break;
+            return Steps {
+                made: made,
+                end: end,
+            };
         };
-        end = put_line_at(out, end, show_step(&here, step));
-        made += 1;
+        end = put_line_at(out, end, step_line(&here, step));
     }
     Steps {
-        made: made,
+        made: opened.draws,
         end: end,
     }
 }
 
 // Puts the lines of a map's run, and answers the place after them.
-fn put_lot(input: &[u8], m: Map, draws: u16, out: &mut [u8]) -> usize
-    requires opens { Opens input.now m draws }
+fn put_lot(input: &[u8], opened: Opening, out: &mut [u8]) -> usize
+    requires opens { Opens input.now opened }
     requires output_room_in_bounds { output_room ≤ length out.old }
     ensures { Filled input.now out.old out.new result }
 {
-    let steps = put_steps(input, m, draws, out);
-    put_line_at(out, steps.end, closing_line(m, steps.made))
+    let steps = put_steps(input, opened, out);
+    put_line_at(out, steps.end, closing_line(opened.map, steps.made))
 }
 
 // Puts the output for this input at the start of out, and answers its length. An out of under OUTPUT_ROOM bytes is left as it was, and
@@ -155,11 +135,8 @@ pub fn put_output(input: &[u8], out: &mut [u8]) -> usize
     if out.len() < OUTPUT_ROOM {
         return 0;
     }
-    let opened = opening::open(input);
-    let answer = opened.answer;
-    let map = opened.map;
-    match answer {
-        OpenAnswer::Refused(fault) => put_line_at(out, 0, plain(map, opening::refusal_line(fault))),
-        OpenAnswer::Opened(draws) => put_lot(input, map, draws, out),
+    match opening::open(input) {
+        Ok(opened) => put_lot(input, opened, out),
+        Err(fault) => put_line_at(out, 0, opening::refusal_line(fault)),
     }
 }

@@ -15,18 +15,9 @@ use std::io::{Error, ErrorKind, Read, Write};
 // One byte more than an input may have, so that a longer one is seen.
 const INPUT_ROOM: usize = opening::MOST_BYTES + 1;
 
-// All of the input, so many bytes, or a read failed.
+// Why a run is not whole.
 #[derive(Clone, Copy)]
-pub enum Input {
-    Whole(usize),
-    Failed,
-}
-
-// What a run comes to.
-#[derive(Clone, Copy)]
-pub(crate) enum Served {
-    // So many bytes were read, and their output is written.
-    Whole(usize),
+pub(crate) enum ServeError {
     // A read failed.
     Unread(Error),
     // So many bytes were read, and a write failed or took nothing.
@@ -102,23 +93,24 @@ fn write_lot<W: Write>(writer: &mut W, input: &[u8], room: &mut [u8]) -> io::Res
     write_output(writer, input, &room[..end])
 }
 
-// Reads an input into one lent buffer, lays out its output in the other, and writes that. Where a read failed nothing is written.
+// Reads an input into one lent buffer, lays out its output in the other, and writes that; answers how many bytes were read. Where a read
+// failed nothing is written.
 pub(crate) fn serve<R: Read, W: Write>(
     reader: &mut R,
     writer: &mut W,
     input: &mut [u8],
     output: &mut [u8],
-) -> Served
+) -> Result<usize, ServeError>
     requires input_room { length input.old ≡ input_room }
     requires output_room { output_room ≤ length output.old }
     ensures { Serves (R.remaining reader.old) (W.contents writer.old) (W.contents writer.new) result }
 {
     match read_input(reader, input) {
         Ok(n) => match write_lot(writer, &input[..n], output) {
-            Ok(()) => Served::Whole(n),
-            Err(e) => Served::Unwritten(n, e),
+            Ok(()) => Ok(n),
+            Err(e) => Err(ServeError::Unwritten(n, e)),
         },
-        Err(e) => Served::Unread(e),
+        Err(e) => Err(ServeError::Unread(e)),
     }
 }
 
@@ -141,22 +133,22 @@ fn tell(rt: &HostRuntime, stream: &str, error: &Error) {
     };
 }
 
-// Reads standard input, and writes its output to standard output. Answers what was read: the rules leave it open, so that nothing but its
-// length is limited. Where a read failed nothing is written.
-pub fn run(rt: &HostRuntime) -> Input
+// Reads standard input, and writes its output to standard output. Answers how many bytes were read: the rules leave it open, so that nothing
+// but its limit is said. Where a read failed there is no answer, and nothing is written.
+pub fn run(rt: &HostRuntime) -> Option<usize>
     ensures { Within result input_room }
 {
     let mut input = [0u8; INPUT_ROOM];
     let mut output = [0u8; OUTPUT_ROOM];
     match serve(&mut rt.stdin(), &mut rt.stdout(), &mut input, &mut output) {
-        Served::Whole(n) => Input::Whole(n),
-        Served::Unread(e) => {
+        Ok(n) => Some(n),
+        Err(ServeError::Unread(e)) => {
             tell(rt, "input", &e);
-            Input::Failed
+            None
         }
-        Served::Unwritten(n, e) => {
+        Err(ServeError::Unwritten(n, e)) => {
             tell(rt, "output", &e);
-            Input::Whole(n)
+            Some(n)
         }
     }
 }

@@ -6,4 +6,4 @@ use Rattle.opening.proofs.draw_at.Goals as goal
 
 pub returns : goal.returns
 unfolding draw_at number
-returns c = omega (arith, c.byte_at.ensures.0, c.byte_at-2.ensures.0)
+returns c = omega (arith, c.byte_at.ensures, c.byte_at-2.ensures)

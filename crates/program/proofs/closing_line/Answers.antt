@@ -2,4 +2,4 @@
 use Rattle.program.proofs.closing_line.Goals as goal
 
 pub returns : goal.returns
-returns c = rw c.count_links.ensures at c.plain.ensures
+returns c = rw c.count_links.ensures

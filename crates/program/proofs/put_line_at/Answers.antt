@@ -5,10 +5,8 @@ use Rattle.program.proofs.put_line_at.Goals as goal
 
 pub overflow_add-result : goal.overflow_add-result
 overflow_add-result c =
-    let n = c.put_line-n in
-    omega (arith, count_le c.args.out.now c.args.at c.args.shown c.requires n.ensures.count)
+    omega (arith, count_le c.args.out.now c.args.at c.args.line c.requires c.put_line.ensures.count)
 
 pub returns : goal.returns
 returns c =
-    let n = c.put_line-n in
-    line-put-at c.args.out.now c.args.at c.args.shown c.requires n.ensures.count n.ensures.bytes
+    line-put-at c.args.out.now c.args.at c.args.line c.requires c.put_line.ensures.count c.put_line.ensures.bytes

@@ -10,12 +10,12 @@ use Rattle.program.proofs.Standing.{closing_room, closing_fills}
 use Rattle.program.proofs.put_lot.Goals as goal
 use Rattle.program.proofs.put_lot.Goals.{Start}
 
-map_fits : (c : Start) → Fits c.args.m
+map_fits : (c : Start) → Fits c.args.opened.map
 map_fits c =
-    let fields = c.well_formed.1.0.1.1.1.1.1 in
+    let fields = c.well_formed.1.0.1.1.1.0.1.1.1.1.1 in
     record {
-      counts = elements_fit w32 c.args.m.counts fields.1.0.0 fields.1.0.1.1;
-      neighbours = elements_fit w64 c.args.m.neighbours fields.1.1.0.0 fields.1.1.0.1.1;
+      counts = elements_fit w32 c.args.opened.map.counts fields.1.0.0 fields.1.0.1.1;
+      neighbours = elements_fit w64 c.args.opened.map.neighbours fields.1.1.0.0 fields.1.1.0.1.1;
     }
 
 roomy : (c : Start) → Roomy c.args.input.now c.args.out.now

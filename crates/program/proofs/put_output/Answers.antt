@@ -10,18 +10,18 @@ returns-then-out-lt-OUTPUT_ROOM c =
 
 pub put_lot-requires : goal.put_lot-requires
 put_lot-requires c =
-    record { opens = opens-map c.args.input.now c.open-opened.result c.open-opened.ensures c.in-Opened.is; output_room_in_bounds = c.if-out-lt-OUTPUT_ROOM.false }
+    record { opens = opens-map c.args.input.now c.open.result c.open.ensures c.in-Ok.is; output_room_in_bounds = c.if-out-lt-OUTPUT_ROOM.false }
 
-pub returns-in-Refused : goal.returns-in-Refused
-returns-in-Refused c =
+pub returns-in-Err : goal.returns-in-Err
+returns-in-Err c =
     let s = c.args.input.now in
     let l = c.args.out.now in
-    let line = rw (c.plain.ensures, c.refusal_line.ensures) at c.put_line_at.ensures in
-    let alone = refusal_alone s c.open-opened.result c.open-opened.ensures c.in-Refused.is in
+    let line = rw c.refusal_line.ensures at c.put_line_at.ensures in
+    let alone = refusal_alone s c.open.result c.open.ensures c.in-Err.is in
     let put = output_put s l c.if-out-lt-OUTPUT_ROOM.false (line_fills s l c.if-out-lt-OUTPUT_ROOM.false alone line) in
     record { count = put.0; bytes = put.1 }
 
-pub returns-in-Opened : goal.returns-in-Opened
-returns-in-Opened c =
+pub returns-in-Ok : goal.returns-in-Ok
+returns-in-Ok c =
     let put = output_put c.args.input.now c.args.out.now c.if-out-lt-OUTPUT_ROOM.false c.put_lot.ensures in
     record { count = put.0; bytes = put.1 }

@@ -2,21 +2,22 @@
 use Rattle.std.specs.Prelude.{◌≡◌, ℕ, ◌≤◌, length, take, drop}
 use mathlib.Core.List.{List, [], ◌∷◌, flat_map}
 use Rattle.topology.specs.Answer.{accepted}
-use Rattle.linemap.specs.declared.Map.{Map}
 use Rattle.linemap.specs.Maps.{acceptance}
 use Rattle.finite.specs.Internal.Putting.{Room, Put}
+use Rattle.text.specs.declared.Line.{Line}
+use Rattle.text.specs.Text.{text_of}
+use Rattle.opening.specs.declared.Opening.{Opening}
 use Rattle.opening.specs.Opening.{input_opening}
-use Rattle.program.specs.declared.Shown.{Shown}
-use Rattle.program.specs.Output.{shown_text, closing_line, lines_of, output_of, most_lines, output_room}
+use Rattle.program.specs.Output.{closing_line, lines_of, output_of, most_lines, output_room}
 
 -- the bytes of these lines
-abbrev pub bytes_of : List Shown → List ℕ
-bytes_of = flat_map shown_text
+abbrev pub bytes_of : List Line → List ℕ
+bytes_of = flat_map text_of
 
 -- the input s opens this map, which is accepted, with so many draws
-pub record Opens (s : List ℕ) (m : Map) (draws : ℕ) : Type 0 where
-  pub opens : input_opening s ≡ record { numbers = 0 ∷ draws ∷ []; map = m }
-  pub good : acceptance m ≡ accepted
+pub record Opens (s : List ℕ) (o : Opening) : Type 0 where
+  pub opens : input_opening s ≡ record { numbers = 0 ∷ o.draws ∷ []; map = o.map }
+  pub good : acceptance o.map ≡ accepted
 
 -- the lines for the input s are no more than the buffer l has room for
 pub record Roomy (s l : List ℕ) : Type 0 where
