@@ -7,7 +7,7 @@ ghost use Rattle.capi.specs.Map.{sheet_call};
 ghost use Rattle.capi.specs.Internal.Values.{value_of};
 
 use linemap::Map;
-use sheet::{SheetAnswer, SheetFault};
+use sheet::SheetFault;
 
 fn sheet_fault(why: SheetFault) -> u64
     requires { value_of (sheet_fault_numbers why) < 4294967296 }
@@ -23,13 +23,13 @@ fn sheet_fault(why: SheetFault) -> u64
     }
 }
 
-fn laid(answer: SheetAnswer) -> u64
+fn laid(answer: Result<usize, SheetFault>) -> u64
     requires { value_of (sheet_numbers answer) < 4294967296 }
     ensures { result ≡ packed (sheet_numbers answer) }
 {
     match answer {
-        SheetAnswer::Laid(need) => crate::map::with_value(0, need as u32),
-        SheetAnswer::Refused(why) => sheet_fault(why),
+        Ok(need) => crate::map::with_value(0, need as u32),
+        Err(why) => sheet_fault(why),
     }
 }
 
@@ -43,6 +43,5 @@ pub extern "C" fn tally_sheet(
 ) -> u64
     ensures { called result bytes.new ≡ sheet_call (sheet_on map (net_in net.now kept.now) bytes.old) }
 {
-    let answer = sheet::put_sheet(map, net, kept, bytes);
-    laid(answer)
+    laid(sheet::put_sheet(map, net, kept, bytes))
 }

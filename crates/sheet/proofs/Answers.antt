@@ -5,14 +5,13 @@ use mathlib.Core.List.{List, [], ◌∷◌}
 use Prim.Native.Nat.{ℕ}
 use lib.ListN.{get_or}
 use lib.Dec.{eqb}
+use Rattle.std.specs.Prelude.{Result, Ok, Err}
 use Rattle.finite.proofs.Cases.{clash}
 use Rattle.topology.specs.Answer.{is_accepted}
 use Rattle.topology.specs.declared.Fault.TheVariants.{Classes, Stations, Desk, Beyond, Itself, OneWay, Apart}
 use Rattle.topology.proofs.Answers.{fault_from, fault_refuses}
 use Rattle.sheet.specs.declared.SheetFault.{SheetFault}
 use Rattle.sheet.specs.declared.SheetFault.TheVariants.{Unfit, Lot, OutOfForm, Differs, Unreported, Buffer}
-use Rattle.sheet.specs.declared.SheetAnswer.{SheetAnswer}
-use Rattle.sheet.specs.declared.SheetAnswer.TheVariants.{Laid, Refused}
 use Rattle.sheet.specs.Sheet.{sheet_fault_numbers, sheet_numbers}
 
 -- the refusal by its number and values
@@ -48,8 +47,8 @@ refuses Unreported = refl
 refuses (Buffer n) = refl
 refuses (Unfit fault) = fault_refuses fault
 
-pub sheet_pins : (a b : SheetAnswer) → sheet_numbers a ≡ sheet_numbers b → a ≡ b
-sheet_pins (Laid m) (Laid n) e = ap (λ (l : List ℕ). Laid (get_or l 1 0)) e
-sheet_pins (Laid m) (Refused g) e = clash (ap is_accepted (sym e)) (refuses g)
-sheet_pins (Refused f) (Laid n) e = clash (ap is_accepted e) (refuses f)
-sheet_pins (Refused f) (Refused g) e = ap Refused (sym (again f) ∙ ap fault_of e ∙ again g)
+pub sheet_pins : (a b : Result ℕ SheetFault) → sheet_numbers a ≡ sheet_numbers b → a ≡ b
+sheet_pins (Ok m) (Ok n) e = ap (λ (l : List ℕ). Ok (get_or l 1 0)) e
+sheet_pins (Ok m) (Err g) e = clash (ap is_accepted (sym e)) (refuses g)
+sheet_pins (Err f) (Ok n) e = clash (ap is_accepted e) (refuses f)
+sheet_pins (Err f) (Err g) e = ap Err (sym (again f) ∙ ap fault_of e ∙ again g)

@@ -6,10 +6,11 @@ use Prim.Native.Nat.{ℕ, ◌^◌, ◌≤◌, ◌<◌}
 use native.Mathlib.Omega.{arith}
 use lib.ListN.{length}
 use lib.Dec.{eqb, ltb}
+use Rattle.std.specs.Prelude.{Ok, Err}
 use borrow.Author.Tests.{lt-leb, le-leb, ltb-true, eqb-true}
 use Rattle.finite.proofs.Cases.{and_both}
 use Rattle.finite.proofs.Below.{all_below-at}
-use Rattle.finite.specs.Internal.Putting.{Room}
+use Rattle.finite.specs.Internal.Putting.{Room, Put}
 use Rattle.finite.proofs.Stores.{put_front}
 use Rattle.aggregate.specs.Ways.{summing}
 use Rattle.aggregate.specs.Aggregate.{root_of, cell, bounded}
@@ -27,10 +28,9 @@ use Rattle.linemap.proofs.Accepted.{map_classes, map_web}
 use Rattle.rendezvous.specs.Net.{Net, well_formed}
 use Rattle.rendezvous.proofs.Laws.{form_valid, root_most, held-bounded}
 use Rattle.sheet.specs.declared.SheetFault.TheVariants.{Unfit, Lot, OutOfForm, Differs, Unreported, Buffer}
-use Rattle.sheet.specs.declared.SheetAnswer.TheVariants.{Laid, Refused}
 use Rattle.sheet.specs.Layout.{sheet_of}
 use Rattle.sheet.specs.Sheet.{sheet_outcome_of, desk_of, agrees, are_narrow, is_reported, sheet_length, sheet_on}
-use Rattle.sheet.specs.Internal.Laying.{Lays, NarrowCells, NarrowMap, FitStations}
+use Rattle.sheet.specs.Internal.Laying.{NarrowCells, NarrowMap, FitStations}
 use Rattle.sheet.proofs.Lines.{length_sheet}
 
 -- what an agreement says
@@ -76,45 +76,46 @@ module _ (m : Map) (ok : is_accepted (acceptance m) ≡ true) where
     narrow_cells = record { few = few_classes; cells = λ j low. record { total = class_total j low; missing = class_missing j low } }
 
 module _ (m : Map) (net : Net) (l : List ℕ) where
-  pub unfit : (fault : Fault) → fault_numbers fault ≡ acceptance m → sheet_outcome_of (Refused (Unfit fault)) l ≡ sheet_on m net l
+  pub unfit : (fault : Fault) → fault_numbers fault ≡ acceptance m → sheet_outcome_of (Err (Unfit fault)) l ≡ sheet_on m net l
   unfolding sheet_on
   unfit fault told =
       let fails : is_accepted (acceptance m) ≡ false = ap is_accepted (sym told) ∙ fault_refuses fault in
       rw fails (ap (λ (x : List ℕ). record { numbers = x; buffer = l }) told)
 
   module _ (ok : is_accepted (acceptance m) ≡ true) where
-    pub long_lot : is_storable m.lot ≡ false → sheet_outcome_of (Refused Lot) l ≡ sheet_on m net l
+    pub long_lot : is_storable m.lot ≡ false → sheet_outcome_of (Err Lot) l ≡ sheet_on m net l
     unfolding sheet_on
     long_lot fails = rw (ok, fails)
 
     module _ (storable : is_storable m.lot ≡ true) where
-      pub out_of_form : well_formed net ≡ false → sheet_outcome_of (Refused OutOfForm) l ≡ sheet_on m net l
+      pub out_of_form : well_formed net ≡ false → sheet_outcome_of (Err OutOfForm) l ≡ sheet_on m net l
       unfolding sheet_on
       out_of_form fails = rw (ok, storable, fails)
 
       module _ (formed : well_formed net ≡ true) where
-        pub differs : agrees (config_of summing m) net.config ≡ false → sheet_outcome_of (Refused Differs) l ≡ sheet_on m net l
+        pub differs : agrees (config_of summing m) net.config ≡ false → sheet_outcome_of (Err Differs) l ≡ sheet_on m net l
         unfolding sheet_on
         differs fails = rw (ok, storable, formed, fails)
 
         module _ (same : agrees (config_of summing m) net.config ≡ true) where
-          pub unreported : is_reported m.classes (desk_of net) ≡ false → sheet_outcome_of (Refused Unreported) l ≡ sheet_on m net l
+          pub unreported : is_reported m.classes (desk_of net) ≡ false → sheet_outcome_of (Err Unreported) l ≡ sheet_on m net l
           unfolding sheet_on
           unreported fails = rw (ok, storable, formed, same, fails)
 
           module _ (reported : is_reported m.classes (desk_of net) ≡ true) where
-            pub too_short : (need : ℕ) → need ≡ sheet_length m → length l < need → sheet_outcome_of (Refused (Buffer need)) l ≡ sheet_on m net l
+            pub too_short : (need : ℕ) → need ≡ sheet_length m → length l < need → sheet_outcome_of (Err (Buffer need)) l ≡ sheet_on m net l
             unfolding sheet_on
             too_short need e less =
                 rw (ok, storable, formed, same, reported, lt-leb (sheet_length m) (length l) (omega (arith, e, less)))
-                (ap (λ (n : ℕ). sheet_outcome_of (Refused (Buffer n)) l) e)
+                (ap (λ (n : ℕ). sheet_outcome_of (Err (Buffer n)) l) e)
 
-            pub lays_sheet : (need : ℕ) {l' : List ℕ} {r : ℕ} → FitStations m.counts m.classes m.k → need ≡ sheet_length m → need ≤ length l
-                → Lays l 0 (sheet_of m (desk_of net).held) l' r → sheet_outcome_of (Laid need) l' ≡ sheet_on m net l
+            pub lays_sheet : (need : ℕ) {out l' : List ℕ} {r : ℕ} → FitStations m.counts m.classes m.k → need ≡ sheet_length m → need ≤ length l
+                → (Room l 0 (sheet_of m (desk_of net).held) → Put l 0 (sheet_of m (desk_of net).held) l' r) → out ≡ l'
+                → sheet_outcome_of (Ok need) out ≡ sheet_on m net l
             unfolding sheet_on
-            lays_sheet need {l'} fits e enough lays =
+            lays_sheet need fits e enough lays last =
                 let held = (desk_of net).held in
                 let long = length_sheet m held (narrow_map m ok storable) (narrow_cells m ok net formed same reported) fits in
                 let room : Room l 0 (sheet_of m held) = record { fits = omega (arith, long, e, enough) } in
                 rw (ok, storable, formed, same, reported, le-leb (sheet_length m) (length l) (omega (arith, e, enough)))
-                (ap₂ (λ (n : ℕ) (b : List ℕ). sheet_outcome_of (Laid n) b) e (put_front room (lays.put room)).1)
+                (ap₂ (λ (n : ℕ) (b : List ℕ). sheet_outcome_of (Ok n) b) e (last ∙ (put_front room (lays room)).1))

@@ -1,6 +1,6 @@
 -- What a sheet says (document 02, request 7): "The totals printed are the desk's. For a net reached by allowed steps from the fresh net of that
 -- map, the lines above add up to them." It is read from the bytes in the buffer. The theorem is `sheets` (proofs/Adding).
-use Rattle.std.specs.Prelude.{◌≡◌, Bool, cond, List, [], ◌∷◌, ℕ, ◌+◌, ◌*◌, ◌-◌, ◌<◌, eqb, leb, length, get_or, take, drop}
+use Rattle.std.specs.Prelude.{◌≡◌, Bool, cond, List, [], ◌∷◌, ℕ, ◌+◌, ◌*◌, ◌-◌, ◌<◌, eqb, leb, length, get_or, take, drop, Ok}
 use Prim.Native.Char.{code}
 use Rattle.finite.specs.Sum.{sum, indicator}
 use Rattle.finite.specs.Below.{all_below}
@@ -13,7 +13,6 @@ use Rattle.linemap.specs.RoundTrip.{Fits}
 use Rattle.rendezvous.specs.Net.{Net}
 use Rattle.demand.specs.Kinds.{meeting, carrying, left, reports}
 use Rattle.demand.specs.Demand.{OnEveryMap}
-use Rattle.sheet.specs.declared.SheetAnswer.TheVariants.{Laid}
 use Rattle.sheet.specs.Layout.{column, count_column, sheet_of}
 use Rattle.sheet.specs.Sheet.{sheet_numbers, desk_of, sheet_length, sheet_on}
 
@@ -65,7 +64,7 @@ pub record Columns (m : Map) (held : Aggregate) : Type 0 where
 
 -- nothing is refused
 abbrev pub LaidOut : Map → Net → List ℕ → Type 0
-LaidOut m net buffer = (sheet_on m net buffer).numbers ≡ sheet_numbers (Laid (sheet_length m))
+LaidOut m net buffer = (sheet_on m net buffer).numbers ≡ sheet_numbers (Ok (sheet_length m))
 
 -- after the report, what stands in the buffer adds up
 abbrev pub Sound : Map → ℕ → Net → Type 0

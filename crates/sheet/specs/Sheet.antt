@@ -1,6 +1,6 @@
 -- What laying out a sheet gives (document 02, request 7): "The sheet takes a map and a net of stations that meet, tested in that order, 18
 -- included", then "20 then 21, after 11 and before 15".
-use Rattle.std.specs.Prelude.{Bool, ◌&&◌, List, [], ◌∷◌, ℕ, ◌+◌, ◌*◌, ◌^◌, eqb, ltb, leb, length}
+use Rattle.std.specs.Prelude.{Bool, ◌&&◌, List, [], ◌∷◌, ℕ, ◌+◌, ◌*◌, ◌^◌, eqb, ltb, leb, length, Result, Ok, Err}
 use Rattle.finite.specs.Below.{all_below}
 use Rattle.finite.specs.Stores.{over}
 use Rattle.finite.specs.Tests.{unless}
@@ -20,8 +20,6 @@ use Rattle.linemap.specs.Writing.{is_storable, write_fault_numbers}
 use Rattle.rendezvous.specs.Net.{Net, station, well_formed}
 use Rattle.sheet.specs.declared.SheetFault.{SheetFault}
 use Rattle.sheet.specs.declared.SheetFault.TheVariants.{Unfit, Lot, OutOfForm, Differs, Unreported, Buffer}
-use Rattle.sheet.specs.declared.SheetAnswer.{SheetAnswer}
-use Rattle.sheet.specs.declared.SheetAnswer.TheVariants.{Laid, Refused}
 use Rattle.sheet.specs.Layout.{sheet_of}
 
 -- the number of each refusal, with its values: those of a map to be written and of a net, and 20 and 21. `sheet_pins` (proofs/Answers) says
@@ -35,9 +33,9 @@ sheet_fault_numbers Unreported = 21 ∷ []
 sheet_fault_numbers (Buffer need) = write_fault_numbers (write.Buffer need)
 
 -- 0 with the sheet's length where nothing is refused
-abbrev pub sheet_numbers : SheetAnswer → List ℕ
-sheet_numbers (Laid need) = 0 ∷ need ∷ []
-sheet_numbers (Refused fault) = sheet_fault_numbers fault
+abbrev pub sheet_numbers : Result ℕ SheetFault → List ℕ
+sheet_numbers (Ok need) = 0 ∷ need ∷ []
+sheet_numbers (Err fault) = sheet_fault_numbers fault
 
 -- the number with its values, and the buffer after
 pub record SheetOutcome : Type 0 where
@@ -45,7 +43,7 @@ pub record SheetOutcome : Type 0 where
   pub buffer : List ℕ
 
 -- what an answer and the buffer beside it come to
-abbrev pub sheet_outcome_of : SheetAnswer → List ℕ → SheetOutcome
+abbrev pub sheet_outcome_of : Result ℕ SheetFault → List ℕ → SheetOutcome
 sheet_outcome_of answer buffer = record { numbers = sheet_numbers answer; buffer = buffer }
 
 -- the desk of a net
@@ -72,11 +70,11 @@ sheet_length m = 41 * (1 + m.k * m.classes + m.classes)
 -- short gets 15 with the sheet's length". `Sheets` (specs/Adding) says that this is the sheet's length.
 unfoldable pub sheet_on : Map → Net → List ℕ → SheetOutcome
 sheet_on m net buffer =
-    let refused : SheetFault → SheetOutcome = λ fault. sheet_outcome_of (Refused fault) buffer in
+    let refused : SheetFault → SheetOutcome = λ fault. sheet_outcome_of (Err fault) buffer in
     unless (is_accepted (acceptance m)) (record { numbers = acceptance m; buffer = buffer })
     (unless (is_storable m.lot) (refused Lot)
     (unless (well_formed net) (refused OutOfForm)
     (unless (agrees (config_of summing m) net.config) (refused Differs)
     (unless (is_reported m.classes (desk_of net)) (refused Unreported)
     (unless (leb (sheet_length m) (length buffer)) (refused (Buffer (sheet_length m)))
-    (sheet_outcome_of (Laid (sheet_length m)) (over (sheet_of m (desk_of net).held) buffer)))))))
+    (sheet_outcome_of (Ok (sheet_length m)) (over (sheet_of m (desk_of net).held) buffer)))))))

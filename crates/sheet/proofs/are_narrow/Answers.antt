@@ -14,7 +14,7 @@ use Rattle.sheet.proofs.are_narrow.Goals as goal
 
 pub loop-j-init : goal.loop-j-init
 unfolding all_below
-loop-j-init c = (omega arith, refl)
+loop-j-init c = refl
 
 pub returns-then-x-ge-TOTAL_LIMIT : goal.returns-then-x-ge-TOTAL_LIMIT
 unfolding are_narrow
@@ -29,15 +29,13 @@ pub loop-j-preserved : goal.loop-j-preserved
 loop-j-preserved c =
     let held = c.args.s.held in
     let l = c.loop-j in
-    let sum = ap (λ (x : Cell). x.sum) c.class_of-x.ensures in (
-      omega arith,
-      all_below_more (λ x. ltb (cell held x).sum (10 ^ 12)) l.j
-          ∙ ap₂ (λ (x y : Bool). x && y) l.invariant.1 (lt-ltb (cell held l.j).sum (10 ^ 12) (omega (arith, c.if-x-ge-TOTAL_LIMIT.false, sum))),
-    )
+    let sum = ap (λ (x : Cell). x.sum) c.class_of-x.ensures in
+    all_below_more (λ x. ltb (cell held x).sum (10 ^ 12)) l.j
+    ∙ ap₂ (λ (x y : Bool). x && y) l.invariant (lt-ltb (cell held l.j).sum (10 ^ 12) (omega (arith, c.if-x-ge-TOTAL_LIMIT.false, sum)))
 
 pub returns : goal.returns
 unfolding are_narrow
 returns c =
     let l = c.loop-j in
     let end : l.j ≡ c.args.classes = omega arith in
-    sym (rw end at l.invariant.1)
+    sym (rw end at l.invariant)

@@ -1,10 +1,11 @@
 -- `sheet::put_sheet` meets its contract: one law of `sheet_on` for each way it ends. Assumes nothing.
 use mathlib.Core.Path.{◌≡◌, sym, ap, ap₂, ◌∙◌}
 use mathlib.Core.Bool.{true}
+use Rattle.std.proofs.Common.{rules}
+use Rattle.std.proofs.lemmas.Result.{err_from_is_err_and}
 use Rattle.aggregate.specs.Ways.{summing}
 use Rattle.aggregate.specs.Aggregate.{root_of}
 use Rattle.topology.specs.Answer.{is_accepted}
-use Rattle.topology.specs.Acceptance.{fault_numbers, verdict_numbers}
 use Rattle.linemap.specs.Maps.{config_of, acceptance}
 use Rattle.linemap.specs.Writing.{is_storable}
 use Rattle.stations.proofs.Words.{station_read_lem}
@@ -13,12 +14,12 @@ use Rattle.rendezvous.specs.Net.{net_in, well_formed}
 use Rattle.sheet.specs.Sheet.{desk_of, agrees, is_reported}
 use Rattle.sheet.proofs.Rules.{desk-low, narrow_map, narrow_cells, unfit, long_lot, out_of_form, differs, unreported, too_short, lays_sheet}
 use Rattle.sheet.proofs.put_sheet.Goals as goal
-use Rattle.sheet.proofs.put_sheet.Goals.{In_default, Else-not-is_storable, Else-not-is_well_formed, Else-not-agrees}
+use Rattle.sheet.proofs.put_sheet.Goals.{In_ok-accept, Else-not-is_storable, Else-not-is_well_formed, Else-not-agrees}
 use Rattle.sheet.proofs.put_sheet.Goals.{After-load-desk, Else-not-is_reported}
 
 -- what each test that was passed says
-accepted-map : (c : In_default) → is_accepted (acceptance c.args.m) ≡ true
-accepted-map c = ap is_accepted (sym c.accept.ensures ∙ ap verdict_numbers c.in_default.is)
+accepted-map : (c : In_ok-accept) → is_accepted (acceptance c.args.m) ≡ true
+accepted-map c = ap is_accepted (sym c.in_ok-accept.ensures)
 
 storable_lot : (c : Else-not-is_storable) → is_storable c.args.m.lot ≡ true
 storable_lot c = sym c.is_storable.ensures ∙ c.if-not-is_storable.false
@@ -44,32 +45,31 @@ reported : (c : Else-not-is_reported) → c.load-desk.result ≡ desk_of (net_in
     → is_reported c.args.m.classes (desk_of (net_in c.args.net.now c.args.totals.now)) ≡ true
 reported c desk = sym (c.is_reported.ensures ∙ ap (is_reported c.args.m.classes) desk) ∙ c.if-not-is_reported.false
 
-pub returns-in-Err : goal.returns-in-Err
-returns-in-Err c =
+pub returns-in_err-accept : goal.returns-in_err-accept
+returns-in_err-accept c =
     let a = c.args in
-    let fault = c.in-Err.fault in
-    let told : fault_numbers fault ≡ acceptance a.m = ap verdict_numbers (sym c.in-Err.is) ∙ c.accept.ensures in
-    unfit a.m (net_in a.net.now a.totals.now) a.out.now fault told
+    let p = err_from_is_err_and c.from_residual.result c.from_residual.ensures.1 in
+    rw (p.1, p.2) (unfit a.m (net_in a.net.now a.totals.now) a.out.now c.in_err-accept.field-0.0 c.in_err-accept.ensures)
 
 pub returns-then-not-is_storable : goal.returns-then-not-is_storable
 returns-then-not-is_storable c =
     let a = c.args in
     let at = goal.at.returns-then-not-is_storable c in
-    long_lot a.m (net_in a.net.now a.totals.now) a.out.now (accepted-map at.In_default)
+    long_lot a.m (net_in a.net.now a.totals.now) a.out.now (accepted-map at.In_ok-accept)
     (sym c.is_storable.ensures ∙ c.if-not-is_storable.true)
 
 pub returns-then-not-is_well_formed : goal.returns-then-not-is_well_formed
 returns-then-not-is_well_formed c =
     let a = c.args in
     let at = goal.at.returns-then-not-is_well_formed c in
-    out_of_form a.m (net_in a.net.now a.totals.now) a.out.now (accepted-map at.In_default) (storable_lot at.Else-not-is_storable)
+    out_of_form a.m (net_in a.net.now a.totals.now) a.out.now (accepted-map at.In_ok-accept) (storable_lot at.Else-not-is_storable)
     (sym c.is_well_formed.ensures ∙ c.if-not-is_well_formed.true)
 
 pub returns-then-not-agrees : goal.returns-then-not-agrees
 returns-then-not-agrees c =
     let a = c.args in
     let at = goal.at.returns-then-not-agrees c in
-    differs a.m (net_in a.net.now a.totals.now) a.out.now (accepted-map at.In_default) (storable_lot at.Else-not-is_storable)
+    differs a.m (net_in a.net.now a.totals.now) a.out.now (accepted-map at.In_ok-accept) (storable_lot at.Else-not-is_storable)
     (formed_net at.Else-not-is_well_formed)
     (sym (c.agrees.ensures ∙ ap₂ agrees c.config.ensures c.config_in-t.ensures) ∙ c.if-not-agrees.true)
 
@@ -77,7 +77,7 @@ pub returns-then-not-is_reported : goal.returns-then-not-is_reported
 returns-then-not-is_reported c =
     let a = c.args in
     let at = goal.at.returns-then-not-is_reported c in
-    unreported a.m (net_in a.net.now a.totals.now) a.out.now (accepted-map at.In_default) (storable_lot at.Else-not-is_storable)
+    unreported a.m (net_in a.net.now a.totals.now) a.out.now (accepted-map at.In_ok-accept) (storable_lot at.Else-not-is_storable)
     (formed_net at.Else-not-is_well_formed) (alike at.Else-not-agrees)
     (sym (c.is_reported.ensures ∙ ap (is_reported a.m.classes) (desk-is at.After-load-desk)) ∙ c.if-not-is_reported.true)
 
@@ -85,15 +85,15 @@ pub returns-then-out-need : goal.returns-then-out-need
 returns-then-out-need c =
     let a = c.args in
     let at = goal.at.returns-then-out-need c in
-    too_short a.m (net_in a.net.now a.totals.now) a.out.now (accepted-map at.In_default) (storable_lot at.Else-not-is_storable)
+    too_short a.m (net_in a.net.now a.totals.now) a.out.now (accepted-map at.In_ok-accept) (storable_lot at.Else-not-is_storable)
     (formed_net at.Else-not-is_well_formed) (alike at.Else-not-agrees) (reported at.Else-not-is_reported (desk-is at.After-load-desk))
     _ c.sheet_length-need.ensures c.if-out-need.true
 
-pub put_lines-end-requires : goal.put_lines-end-requires
-put_lines-end-requires c =
+pub put_lines-requires : goal.put_lines-requires
+put_lines-requires c =
     let a = c.args in
-    let at = goal.at.put_lines-end-requires c in
-    let ok = accepted-map at.In_default in
+    let at = goal.at.put_lines-requires c in
+    let ok = accepted-map at.In_ok-accept in
     let desk = desk-is at.After-load-desk in
     record {
       narrow_map = narrow_map a.m ok (storable_lot at.Else-not-is_storable);
@@ -107,7 +107,7 @@ returns c =
     let a = c.args in
     let at = goal.at.returns c in
     let desk = desk-is at.After-load-desk in
-    let put = c.put_lines-end.ensures in
-    lays_sheet a.m (net_in a.net.now a.totals.now) a.out.now (accepted-map at.In_default) (storable_lot at.Else-not-is_storable)
+    let put = c.put_lines.ensures in
+    lays_sheet a.m (net_in a.net.now a.totals.now) a.out.now (accepted-map at.In_ok-accept) (storable_lot at.Else-not-is_storable)
     (formed_net at.Else-not-is_well_formed) (alike at.Else-not-agrees) (reported at.Else-not-is_reported desk) _ put.fits
-    c.sheet_length-need.ensures c.if-out-need.false (rw desk at put.lays)
+    c.sheet_length-need.ensures c.if-out-need.false (rw desk at put.lays).put (search rules)

@@ -1,15 +1,17 @@
 -- What the parts of `put_sheet` ask of each other and leave.
-use Rattle.std.specs.Prelude.{ℕ, ◌^◌, ◌≤◌, ◌<◌, List, get_or}
+use Rattle.std.specs.Prelude.{◌≡◌, ℕ, ◌^◌, ◌≤◌, ◌<◌, List, get_or}
 use Rattle.finite.specs.Internal.Putting.{Room, Put}
 use Rattle.aggregate.specs.declared.Cell.{Cell}
 use Rattle.aggregate.specs.declared.Aggregate.{Aggregate}
 use Rattle.aggregate.specs.Aggregate.{cell}
 use Rattle.linemap.specs.declared.Map.{Map}
 use Rattle.linemap.specs.Maps.{place}
+use Rattle.sheet.specs.declared.Writer.{Writer}
 
--- vs was put into l from `at` on, if there was room for it
-pub record Lays (l : List ℕ) (at : ℕ) (vs l' : List ℕ) (r : ℕ) : Type 0 where
-  pub put : Room l at vs → Put l at vs l' r
+-- vs was put from the writer's place on, if there was room for it, and the place is the one after it; the buffer is the same
+pub record Lays (w : Writer) (vs : List ℕ) (w' : Writer) : Type 0 where
+  pub same : w'.buf.ghost_name ≡ w.buf.ghost_name
+  pub put : Room w.buf.now w.at vs → Put w.buf.now w.at vs w'.buf.now w'.at
 
 -- a number fits its columns
 pub record Narrow (width n : ℕ) : Type 0 where

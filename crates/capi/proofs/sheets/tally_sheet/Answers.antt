@@ -9,10 +9,10 @@ use Rattle.capi.proofs.sheets.tally_sheet.Goals as goal
 pub laid-requires : goal.laid-requires
 laid-requires c =
     let a = c.args in
-    let told = ap (λ (o : SheetOutcome). o.numbers) c.put_sheet-answer.ensures in
+    let told = ap (λ (o : SheetOutcome). o.numbers) c.put_sheet.ensures in
     rw told (sheet_small a.map (net_in a.net.now a.kept.now) a.bytes.now)
 
 pub returns : goal.returns
 returns c =
-    let told = c.put_sheet-answer.ensures in
+    let told = c.put_sheet.ensures in
     ap₂ called (c.laid.ensures ∙ ap (λ (o : SheetOutcome). packed o.numbers) told) (ap (λ (o : SheetOutcome). o.buffer) told)

@@ -1,0 +1,22 @@
+-- `sheet::Writer::put_station` meets its contract: before class j the lines of the classes below it are put. Assumes nothing.
+use mathlib.Core.Path.{◌≡◌}
+use native.Mathlib.Omega.{arith}
+use Rattle.sheet.specs.Layout.{station_lines}
+use Rattle.sheet.proofs.Laying.{lays_none, lays_more, below_none, below_more}
+use Rattle.sheet.proofs.Writer.put_station.Goals as goal
+
+pub loop-j-init : goal.loop-j-init
+loop-j-init c = (lays_none _, below_none)
+
+pub loop-j-preserved : goal.loop-j-preserved
+loop-j-preserved c =
+    let l = c.loop-j.invariant in
+    let line = c.put_count_line.ensures in
+    (lays_more _ l.0 line.lays, below_more l.1 line.fits)
+
+pub returns : goal.returns
+unfolding station_lines
+returns c =
+    let l = c.loop-j in
+    let end : l.j ≡ c.args.m.now.classes = omega arith in
+    record { lays = rw end at l.invariant.0; fits = rw end at l.invariant.1 }

@@ -1,0 +1,10 @@
+-- `sheet::Writer::put_totals` meets its contract: before class j the lines of the classes below it are put. Assumes nothing.
+use Prim.Native.Nat.{ℕ}
+use Rattle.finite.specs.Below.{each}
+use Rattle.aggregate.specs.Aggregate.{cell}
+use Rattle.sheet.specs.Internal.Laying.{Lays}
+use Rattle.sheet.specs.Layout.{total_line}
+use Rattle.sheet.proofs.Writer.put_totals.Given as goal
+
+abbrev pub invariant-loop-j : goal.invariant-loop-j
+invariant-loop-j l = Lays l.initial.self (each (λ (x : ℕ). total_line x (cell l.held x)) l.j) l.self

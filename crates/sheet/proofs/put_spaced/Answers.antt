@@ -1,8 +1,0 @@
--- `sheet::put_spaced` meets its contract: the number, then the blank. Assumes nothing.
-use Rattle.sheet.specs.Layout.{spaced}
-use Rattle.sheet.proofs.Laying.{lays_one, lays_then}
-use Rattle.sheet.proofs.put_spaced.Goals as goal
-
-pub returns : goal.returns
-unfolding spaced
-returns c = lays_then c.put_number-end.ensures (lays_one (c.put_bytes.ensures.end, c.put_bytes.ensures.bytes))
