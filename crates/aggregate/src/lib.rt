@@ -10,7 +10,7 @@ ghost use Rattle.aggregate.specs.Aggregate.{joined, joinable, clipped, missing_w
 // What a net is opened with: the number of its stations, and of the classes that are counted, its desk, and its way of joining counts. The way is a
 // byte, as the C interface has it: any byte may be lent, and one that is no way is out of form.
 #[repr(C)]
-#[derive(Clone, Copy)]
+#[derive(Clone, Copy, PartialEq, Eq)]
 pub struct Config {
     pub k: u8,
     pub classes: u8,

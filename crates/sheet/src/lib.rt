@@ -176,7 +176,7 @@ impl Writer<'_> {
 fn agrees(s: Config, t: Config) -> bool
     ensures { result ≡ agrees s t }
 {
-    (s.k == t.k) & (s.classes == t.classes) & (s.desk == t.desk) & (s.way == t.way)
+    s == t
 }
 
 // Whether each of so many totals fits its columns.
