@@ -1,9 +1,8 @@
 -- A search where a fifth kind has rows of its own, beside those of the other four: its entries go after theirs. Assumes nothing.
-use Rattle.std.proofs.Common.{◌≡◌, ℕ, ◌+◌, ◌-◌, ◌*◌, ◌%◌, ◌^◌, ◌<◌, ◌≤◌, ltb, List, ◌++◌, length, sym, ◌∙◌, le_trans, mul-le-mul_right, mod-eq_of_lt, arith, length-append, ltb-false, ltb-true, lt-ltb, eq-eqb, ne_eqb}
+use Rattle.std.proofs.Common.{◌≡◌, ℕ, ◌+◌, ◌-◌, ◌*◌, ◌%◌, ◌^◌, ◌<◌, ◌≤◌, ltb, List, ◌++◌, length, sym, ◌∙◌, le_trans, mul-le-mul_right, mod-eq_of_lt, arith, length-append, ltb-false, ltb-true, lt-ltb, eq-eqb, ne_eqb, Result, Ok, Err}
 use Rattle.finite.proofs.Cases.{by_bool, by_eq}
 use Rattle.schedule.specs.declared.Step.{Step}
 use Rattle.schedule.specs.declared.rows.Sizes.{Sizes}
-use Rattle.schedule.specs.declared.rows.Entry.TheVariants.{At, Beyond}
 use Rattle.schedule.specs.Listing.{select, step}
 use Rattle.schedule.specs.Draws.{picked}
 use Rattle.schedule.specs.Rows.{steps_of_kind, entry, in_rows, entry_of_kind, size_of, total_of, step_found, picked_by_size, entry_beside, picked_beside}
@@ -20,14 +19,14 @@ size_few rows k kind low =
     le_trans (length-select (in_rows rows) (steps_of_kind 64 k kind 0)) (rw (length-steps_of_kind 64 k kind) (mul-le-mul_right 64 low))
 
 -- so a search that goes on to 65535 goes past them
-pub searched_past : (rows : List ℕ) (k kind : ℕ) → k ≤ 255 → entry_of_kind rows k kind 65535 ≡ Beyond (65535 - size_of rows k kind)
+pub searched_past : (rows : List ℕ) (k kind : ℕ) → k ≤ 255 → entry_of_kind rows k kind 65535 ≡ Err (65535 - size_of rows k kind)
 unfolding size_of
 searched_past rows k kind low = entry_beyond (select (in_rows rows) (steps_of_kind 64 k kind 0)) 65535 (omega (arith, size_few rows k kind low))
 
-pub past-none : {P : Type 0} {s : Step} {n : ℕ} → At s ≡ Beyond n → P
+pub past-none : {P : Type 0} {s : Step} {n : ℕ} → Ok s ≡ Err n → P
 past-none e = absurd (let z : ◌≡◌ {A = ℕ} 0 1 = cc in omega arith)
 
-pub past-left : {m n : ℕ} → Beyond m ≡ Beyond n → m ≡ n
+pub past-left : {m n : ℕ} → ◌≡◌ {A = Result Step ℕ} (Err m) (Err n) → m ≡ n
 past-left e = cc
 
 -- a number below the total picks the entry that it is, of those before the fifth kind

@@ -1,10 +1,9 @@
 -- What the code of a kind of net cites: each outcome of a single step and of a draw from the tests that lead to it, and the loop of a run,
 -- whose counter is both the place among the draws and the number of steps made. Assumes nothing.
-use Rattle.std.proofs.Common.{◌≡◌, ℕ, suc, ◌+◌, ◌<◌, ◌≤◌, true, false, eqb, List, [], ◌∷◌, length, get_or, drop, sym, refl, ap, zero-add, add-one, arith, drop_of_length-le, drop-cons, ne_eqb}
+use Rattle.std.proofs.Common.{◌≡◌, ℕ, suc, ◌+◌, ◌<◌, ◌≤◌, true, false, eqb, List, [], ◌∷◌, length, get_or, drop, sym, refl, ap, zero-add, add-one, arith, drop_of_length-le, drop-cons, ne_eqb, Some, None}
 use Rattle.refusal.specs.Refusal.{number_of}
 use Rattle.refusal.specs.declared.Refusal.TheVariants.{OutOfForm, OutOfRange, NotAllowed, NothingAllowed}
 use Rattle.schedule.specs.declared.Step.{Step}
-use Rattle.schedule.specs.declared.rows.Drawn.TheVariants as drawn
 use Rattle.schedule.specs.Rules.{Rules, in_range, allowed}
 use Rattle.schedule.specs.Listing.{is_empty, listed, quiescent}
 use Rattle.schedule.specs.Outcome.{step_made, step_refused, RunOutcome}
@@ -41,11 +40,11 @@ module _ {Net : Type 0} (R : Rules Net) where
     draw_unformed f = rw f
 
     module _ (f : R.well_formed net ≡ true) where
-      pub draw_nothing : picked (listed R net) d ≡ drawn.Nothing → draw_on R net d ≡ step_refused NothingAllowed net
+      pub draw_nothing : picked (listed R net) d ≡ None → draw_on R net d ≡ step_refused NothingAllowed net
       unfolding draw_on
       draw_nothing e = rw (f, e)
 
-      pub draw_picked : (s : Step) → picked (listed R net) d ≡ drawn.Step s → draw_on R net d ≡ step_made s (R.apply net s)
+      pub draw_picked : (s : Step) → picked (listed R net) d ≡ Some s → draw_on R net d ≡ step_made s (R.apply net s)
       unfolding draw_on
       draw_picked s e = rw (f, e)
 

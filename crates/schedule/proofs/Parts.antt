@@ -1,9 +1,8 @@
 -- Laws of the parts of the list of steps: one more kind, sender or receiver, entries by number, and lengths. Assumes nothing.
-use Rattle.std.proofs.Common.{◌≡◌, ℕ, zero, suc, ◌+◌, ◌-◌, ◌*◌, ◌<◌, ◌≤◌, Bool, true, false, cond, List, [], ◌∷◌, ◌++◌, length, get_or, sym, refl, ap, ◌∙◌, append_assoc, append-nil, suc-mul, zero-mul, add-one, arith, length-append}
+use Rattle.std.proofs.Common.{◌≡◌, ℕ, zero, suc, ◌+◌, ◌-◌, ◌*◌, ◌<◌, ◌≤◌, Bool, true, false, cond, List, [], ◌∷◌, ◌++◌, length, get_or, sym, refl, ap, ◌∙◌, append_assoc, append-nil, suc-mul, zero-mul, add-one, arith, length-append, Ok, Err}
 use mathlib.Core.List.{flat_map}
 use lib.ListN.{length-map}
 use Rattle.schedule.specs.declared.Step.{Step}
-use Rattle.schedule.specs.declared.rows.Entry.TheVariants.{At, Beyond}
 use Rattle.schedule.specs.Listing.{numbers_from, range, select, step, candidates}
 use Rattle.schedule.specs.Rows.{steps_from, steps_of_kind, entry}
 use Rattle.schedule.specs.Internal.Rows.{steps_of}
@@ -63,7 +62,7 @@ module _ (w : ℕ) where
 
 -- entries of the steps that pass a test
 module _ (p : Step → Bool) where
-  pub entry-met : (s : Step) (l : List Step) (n : ℕ) → p s ≡ true → n ≡ 0 → entry (select p (s ∷ l)) n ≡ At s
+  pub entry-met : (s : Step) (l : List Step) (n : ℕ) → p s ≡ true → n ≡ 0 → entry (select p (s ∷ l)) n ≡ Ok s
   unfolding entry select
   entry-met s l n h z = rw (h, z)
 
@@ -113,30 +112,30 @@ module _ (p : Step → Bool) where
       go false e = omega arith
 
 -- an entry of two lists joined
-pub entry_first : (l m : List Step) (n : ℕ) (s : Step) → entry l n ≡ At s → entry (l ++ m) n ≡ At s
+pub entry_first : (l m : List Step) (n : ℕ) (s : Step) → entry l n ≡ Ok s → entry (l ++ m) n ≡ Ok s
 unfolding entry
 entry_first [] m n s h = absurd (let z : ◌≡◌ {A = ℕ} 0 1 = cc in omega arith)
 entry_first (t ∷ l) m zero s h = h
 entry_first (t ∷ l) m (suc n) s h = entry_first l m n s h
 
-pub entry-second : (l m : List Step) (n n' : ℕ) → entry l n ≡ Beyond n' → entry (l ++ m) n ≡ entry m n'
+pub entry-second : (l m : List Step) (n n' : ℕ) → entry l n ≡ Err n' → entry (l ++ m) n ≡ entry m n'
 unfolding entry
 entry-second [] m n n' h = ap (entry m) (let e : n ≡ n' = cc in e)
 entry-second (t ∷ l) m zero n' h = absurd (let z : ◌≡◌ {A = ℕ} 0 1 = cc in omega arith)
 entry-second (t ∷ l) m (suc n) n' h = entry-second l m n n' h
 
 -- an entry by `get_or`
-pub entry_at : (l : List Step) (n : ℕ) (d : Step) → n < length l → entry l n ≡ At (get_or l n d)
+pub entry_at : (l : List Step) (n : ℕ) (d : Step) → n < length l → entry l n ≡ Ok (get_or l n d)
 unfolding entry
 entry_at [] n d h = absurd (let z : ⊥ = omega arith in z)
 entry_at (t ∷ l) zero d h = refl
 entry_at (t ∷ l) (suc n) d h = entry_at l n d (omega arith)
 
-pub entry_beyond : (l : List Step) (n : ℕ) → length l ≤ n → entry l n ≡ Beyond (n - length l)
+pub entry_beyond : (l : List Step) (n : ℕ) → length l ≤ n → entry l n ≡ Err (n - length l)
 unfolding entry
-entry_beyond [] n h = ap Beyond (omega arith)
+entry_beyond [] n h = ap Err (omega arith)
 entry_beyond (t ∷ l) zero h = absurd (let z : ⊥ = omega arith in z)
-entry_beyond (t ∷ l) (suc n) h = entry_beyond l n (omega arith) ∙ ap Beyond (omega arith)
+entry_beyond (t ∷ l) (suc n) h = entry_beyond l n (omega arith) ∙ ap Err (omega arith)
 
 -- how many steps there are before the test
 length_count : (a n : ℕ) → length (numbers_from a n) ≡ n

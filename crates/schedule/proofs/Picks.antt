@@ -1,22 +1,21 @@
 -- The step that a draw picks, and the entry of the list that it is: d mod c is below c. Assumes nothing.
-use Rattle.std.proofs.Common.{◌≡◌, ℕ, ◌%◌, ◌<◌, Bool, true, List, [], ◌∷◌, length, get_or, refl, ap, ◌∙◌, mod-lt, arith}
+use Rattle.std.proofs.Common.{◌≡◌, ℕ, ◌%◌, ◌<◌, Bool, true, List, [], ◌∷◌, length, get_or, refl, ap, ◌∙◌, mod-lt, arith, Some, None}
 use Rattle.schedule.specs.declared.Step.{Step}
-use Rattle.schedule.specs.declared.rows.Drawn.TheVariants as drawn
 use Rattle.schedule.specs.Rows.{entry, step_found}
 use Rattle.schedule.specs.Draws.{picked}
 use Rattle.schedule.proofs.Parts.{entry_at}
 
-pub picked_none : (l : List Step) (d : ℕ) → length l ≡ 0 → drawn.Nothing ≡ picked l d
+pub picked_none : (l : List Step) (d : ℕ) → length l ≡ 0 → None ≡ picked l d
 unfolding picked
 picked_none [] d z = refl
 picked_none (s ∷ l) d z = absurd (let f : ⊥ = omega arith in f)
 
-pub none-picked : (l : List Step) (d : ℕ) → picked l d ≡ drawn.Nothing → length l ≡ 0
+pub none-picked : (l : List Step) (d : ℕ) → picked l d ≡ None → length l ≡ 0
 unfolding picked
 none-picked [] d e = refl
 none-picked (s ∷ l) d e = absurd (let z : ◌≡◌ {A = ℕ} 0 1 = cc in omega arith)
 
-pub some-picked : {s : Step} (l : List Step) (d : ℕ) → picked l d ≡ drawn.Step s → length l ≡ 0 → ⊥
+pub some-picked : {s : Step} (l : List Step) (d : ℕ) → picked l d ≡ Some s → length l ≡ 0 → ⊥
 unfolding picked
 some-picked [] d e z = absurd (let f : ◌≡◌ {A = ℕ} 0 1 = cc in omega arith)
 some-picked (t ∷ l) d e z = omega arith
@@ -28,7 +27,7 @@ picked-entry (t ∷ l) d z = ap step_found (entry_at (t ∷ l) (d % length (t �
 
 -- what is picked passes what all entries pass
 pub picked-passes : (p : Step → Bool) (d : ℕ) (s : Step) (l : List Step) → ((n : ℕ) (e : Step) → n < length l → p (get_or l n e) ≡ true)
-    → picked l d ≡ drawn.Step s → p s ≡ true
+    → picked l d ≡ Some s → p s ≡ true
 unfolding picked
 picked-passes p d s [] all e = absurd (let z : ◌≡◌ {A = ℕ} 0 1 = cc in omega arith)
 picked-passes p d s (t ∷ l) all e =

@@ -1,13 +1,12 @@
 -- In a net in form a single step is accepted just where it is allowed. So a draw is a single step of those accepted, a net is at rest just where
 -- every single step is refused, and there no call makes a step or leaves another net. Assumes nothing.
-use Rattle.std.proofs.Common.{◌≡◌, ℕ, ◌%◌, Bool, true, cond, eqb, ◌↔◌, List, [], ◌∷◌, length, get_or, sym, refl, ap, ◌∙◌, mod-lt, arith, eq-eqb, ne_eqb, eqb-true}
+use Rattle.std.proofs.Common.{◌≡◌, ℕ, ◌%◌, Bool, true, cond, eqb, ◌↔◌, List, [], ◌∷◌, length, get_or, sym, refl, ap, ◌∙◌, mod-lt, arith, eq-eqb, ne_eqb, eqb-true, Some, None}
 use mathlib.Core.Path.{fun_ext}
 use Rattle.finite.proofs.Cases.{clash, by_bool, by_eq}
 use Rattle.wave.specs.Internal.Claim.{AtRest}
 use Rattle.refusal.specs.declared.Refusal.TheVariants.{OutOfForm, OutOfRange, NotAllowed, NothingAllowed}
 use Rattle.refusal.proofs.Laws.{number-not-zero}
 use Rattle.schedule.specs.declared.Step.{Step}
-use Rattle.schedule.specs.declared.rows.Drawn.TheVariants as drawn
 use Rattle.schedule.specs.Rules.{Rules, in_range, allowed}
 use Rattle.schedule.specs.Listing.{select, step, candidates, is_empty, listed, quiescent}
 use Rattle.schedule.specs.Outcome.{StepOutcome, step_refused, RunOutcome}
@@ -46,7 +45,7 @@ module _ {Net : Type 0} (R : Rules Net) where
         by_eq (length l) 0
         (λ z. rw (eq-eqb (length l) 0 z) (draw_nothing R net d formed (sym (picked_none l d z))))
         (λ some.
-        let is : picked l d ≡ drawn.Step s = sym (picked-entry l d some) ∙ ap step_found (entry_at l n (step 0 0 0) (mod-lt d (omega arith))) in
+        let is : picked l d ≡ Some s = sym (picked-entry l d some) ∙ ap step_found (entry_at l n (step 0 0 0) (mod-lt d (omega arith))) in
         rw (ne_eqb (length l) 0 some) (draw_picked R net d formed s is ∙ sym (step-allowed R net s formed (picked-allowed R net s d is))))
 
     pub rest_refuses : AtRest (Allowed R) net ↔ ((s : Step) → (step_on R net s).number ≡ 0 → ⊥)
@@ -67,7 +66,7 @@ module _ {Net : Type 0} (R : Rules Net) where
       unfolding picked quiescent is_empty
       rest_draw d = draw_nothing R net d formed (none (listed R net) ((quiescent-at-rest R net).1 rest))
         where
-          none : (l : List Step) → is_empty l ≡ true → picked l d ≡ drawn.Nothing
+          none : (l : List Step) → is_empty l ≡ true → picked l d ≡ None
           none [] e = refl
           none (s ∷ l) e = clash e refl
 

@@ -1,13 +1,11 @@
 -- The loop of a run over well-formed nets: the run is one from the net reached, after the steps made, by the draws that are left. A step
 -- leads on, or out of the form, where the run stops. Assumes nothing.
-use Rattle.std.proofs.Common.{◌≡◌, ℕ, ◌+◌, ◌<◌, ◌≤◌, true, false, eqb, List, length, get_or, drop, sym, ap, ◌∙◌, eq-eqb}
+use Rattle.std.proofs.Common.{◌≡◌, ℕ, ◌+◌, ◌<◌, ◌≤◌, true, false, eqb, List, length, get_or, drop, sym, ap, ◌∙◌, eq-eqb, Option, Some, None}
 use Rattle.refusal.specs.declared.Refusal.{Refusal}
 use Rattle.refusal.specs.declared.Refusal.TheVariants.{OutOfForm, NothingAllowed}
 use Rattle.refusal.specs.Refusal.{number_of}
 use Rattle.schedule.specs.declared.Step.{Step}
 use Rattle.schedule.specs.declared.Ran.{Ran}
-use Rattle.schedule.specs.declared.rows.Drawn.{Drawn}
-use Rattle.schedule.specs.declared.rows.Drawn.TheVariants as drawn
 use Rattle.schedule.specs.Rules.{Rules}
 use Rattle.schedule.specs.Listing.{listed}
 use Rattle.schedule.specs.Outcome.{StepOutcome, step_made, step_refused, run_outcome_of}
@@ -63,15 +61,15 @@ module _ {Net : Type 0} (R : Rules Net) where
         → run_on R first draws ≡ record { number = 0; steps = made; rest = eqb c 0; net = here }
     used_up_with h e = rw e (ends_used_up r h ∙ stopped_formed R here made r.formed)
 
-    module _ (h : made < length draws) {p : Drawn} (e : p ≡ picked (listed R here) (get_or draws made 0)) where
-      pub at-rest_with : p ≡ drawn.Nothing → run_on R first draws ≡ record { number = 0; steps = made; rest = true; net = here }
+    module _ (h : made < length draws) {p : Option Step} (e : p ≡ picked (listed R here) (get_or draws made 0)) where
+      pub at-rest_with : p ≡ None → run_on R first draws ≡ record { number = 0; steps = made; rest = true; net = here }
       at-rest_with q =
           ends_refused r h NothingAllowed (drawn_nothing R here _ e r.formed q)
           ∙ stopped_formed R here made r.formed
           ∙ rw (eq-eqb (length (listed R here)) 0 (none-picked (listed R here) (get_or draws made 0) (sym e ∙ q)))
 
       -- the step drawn, and the net after it
-      module _ {s : Step} (q : p ≡ drawn.Step s) {next : Net} (u : next ≡ R.apply here s) where
+      module _ {s : Step} (q : p ≡ Some s) {next : Net} (u : next ≡ R.apply here s) where
         accepts : draw_on R here (get_or draws made 0) ≡ step_made s next
         accepts = drawn_accepted R here _ e r.formed q ∙ ap (step_made s) (sym u)
 

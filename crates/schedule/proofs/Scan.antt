@@ -1,29 +1,27 @@
 -- A scan for entry `index` of the steps that pass a test: what holds at each place of it, and how it goes from one place to the next.
 -- e is the entry looked for, and `left` how many passing steps are still to pass. Assumes nothing.
-use Rattle.std.proofs.Common.{◌≡◌, ℕ, zero, suc, ◌+◌, ◌-◌, ◌<◌, ◌≤◌, Bool, true, false, ltb, List, ◌++◌, length, sym, ap, ◌∙◌, subst, append-nil, arith, ltb-false, ltb-true}
+use Rattle.std.proofs.Common.{◌≡◌, ℕ, zero, suc, ◌+◌, ◌-◌, ◌<◌, ◌≤◌, Bool, true, false, ltb, List, ◌++◌, length, sym, ap, ◌∙◌, subst, append-nil, arith, ltb-false, ltb-true, Result, Ok, Err}
 use Rattle.finite.proofs.Cases.{by_bool}
 use Rattle.schedule.specs.declared.Step.{Step}
-use Rattle.schedule.specs.declared.rows.Entry.{Entry}
-use Rattle.schedule.specs.declared.rows.Entry.TheVariants.{At, Beyond}
 use Rattle.schedule.specs.Listing.{select, step}
 use Rattle.schedule.specs.Rows.{steps_from, steps_of_kind, entry}
 use Rattle.schedule.specs.Internal.Rows.{steps_of}
 use Rattle.schedule.proofs.Parts.{steps_from-none, steps_from_more, steps_of_kind-none, steps_of_kind_more, steps_of-none, steps_of_more, select-append, entry-met, entry_passed, entry_skipped, entry_first, entry-second, entry_at, entry_beyond}
 
 -- before sender s
-pub record AtSender (p : Step → Bool) (e : Entry) (w k kind s left : ℕ) : Type 0 where
+pub record AtSender (p : Step → Bool) (e : Result Step ℕ) (w k kind s left : ℕ) : Type 0 where
   pub same : e ≡ entry (select p (steps_of_kind w k kind s)) left
 
 -- at sender s, before receiver r
-pub record AtReceiver (p : Step → Bool) (e : Entry) (w k kind s r left : ℕ) : Type 0 where
+pub record AtReceiver (p : Step → Bool) (e : Result Step ℕ) (w k kind s r left : ℕ) : Type 0 where
   pub same : e ≡ entry (select p (steps_from w kind s r ++ steps_of_kind w k kind (s + 1))) left
 
 -- before a kind
-pub record AtKind (p : Step → Bool) (e : Entry) (w kinds k kind left : ℕ) : Type 0 where
+pub record AtKind (p : Step → Bool) (e : Result Step ℕ) (w kinds k kind left : ℕ) : Type 0 where
   pub same : e ≡ entry (select p (steps_of w kinds k kind)) left
 
-module _ {p : Step → Bool} {e : Entry} {w k kind s left : ℕ} where
-  pub senders_end : k ≤ s → AtSender p e w k kind s left → Beyond left ≡ e
+module _ {p : Step → Bool} {e : Result Step ℕ} {w k kind s left : ℕ} where
+  pub senders_end : k ≤ s → AtSender p e w k kind s left → Err left ≡ e
   unfolding select entry
   senders_end h i = sym (i.same ∙ rw (steps_of_kind-none w k kind s h))
 
@@ -36,7 +34,7 @@ module _ {p : Step → Bool} {e : Entry} {w k kind s left : ℕ} where
   row_passed n c h i =
       let row = select p (steps_from w kind s 0) in
       let rest = select p (steps_of_kind w k kind (s + 1)) in
-      let beyond : entry row left ≡ Beyond (left - n) = entry_beyond row left (omega (arith, c, h)) ∙ ap (λ (m : ℕ). Beyond (left - m)) (sym c) in
+      let beyond : entry row left ≡ Err (left - n) = entry_beyond row left (omega (arith, c, h)) ∙ ap (λ (m : ℕ). Err (left - m)) (sym c) in
       record {
         same =
             i.same
@@ -45,11 +43,11 @@ module _ {p : Step → Bool} {e : Entry} {w k kind s left : ℕ} where
             ∙ ap (λ (l : List Step). entry (select p (l ++ steps_of_kind w k kind (s + 1))) (left - n)) (sym (steps_from-none w kind s w (omega arith)));
       }
 
-module _ {p : Step → Bool} {e : Entry} {w k kind s r left : ℕ} where
+module _ {p : Step → Bool} {e : Result Step ℕ} {w k kind s r left : ℕ} where
   pub row-end : w ≤ r → AtReceiver p e w k kind s r left → AtSender p e w k kind (s + 1) left
   row-end h i = record { same = rw (steps_from-none w kind s r h) at i.same }
 
-  pub met : r < w → p (step kind s r) ≡ true → left ≡ 0 → AtReceiver p e w k kind s r left → At (step kind s r) ≡ e
+  pub met : r < w → p (step kind s r) ≡ true → left ≡ 0 → AtReceiver p e w k kind s r left → Ok (step kind s r) ≡ e
   met h t z i = sym ((rw (steps_from_more w kind s r h) at i.same) ∙ entry-met p _ _ left t z)
 
   pub passed : r < w → p (step kind s r) ≡ true → (left ≡ 0 → ⊥) → AtReceiver p e w k kind s r left → AtReceiver p e w k kind s (r + 1) (left - 1)
@@ -68,14 +66,14 @@ module _ {p : Step → Bool} {e : Entry} {w k kind s r left : ℕ} where
       record { same = i.same ∙ ap (λ (l : List Step). entry (select p (l ++ steps_of_kind w k kind (s + 1))) left) same })
 
 -- n receivers of whom none passes
-pub all_past : {p : Step → Bool} {e : Entry} {w k kind s left : ℕ} (r n : ℕ) → ((i : ℕ) → i < n → p (step kind s (r + i)) ≡ false)
+pub all_past : {p : Step → Bool} {e : Result Step ℕ} {w k kind s left : ℕ} (r n : ℕ) → ((i : ℕ) → i < n → p (step kind s (r + i)) ≡ false)
     → AtReceiver p e w k kind s r left → AtReceiver p e w k kind s (r + n) left
 all_past {p} {e} {w} {k} {kind} {s} {left} r zero none i = subst (λ (x : ℕ). AtReceiver p e w k kind s x left) (omega arith) i
 all_past {p} {e} {w} {k} {kind} {s} {left} r (suc n) none i =
     let before = all_past r n (λ j l. none j (omega arith)) i in
     subst (λ (x : ℕ). AtReceiver p e w k kind s x left) (omega arith) (past (none n (omega arith)) before)
 
-module _ {p : Step → Bool} {e : Entry} {w kinds k kind left : ℕ} where
+module _ {p : Step → Bool} {e : Result Step ℕ} {w kinds k kind left : ℕ} where
   kind_start : kind ≤ kinds → AtKind p e w kinds k kind left → e ≡ entry (select p (steps_of_kind w k kind 0) ++ select p (steps_of w kinds k (kind + 1))) left
   kind_start h i = i.same ∙ ap (λ (l : List Step). entry l left) (ap (select p) (steps_of_more w kinds k kind h) ∙ select-append p _ _)
 

@@ -1,12 +1,9 @@
 -- Single steps, draws and runs (document 01, "Stations that meet" and "Causes and numbers"), over every kind of net.
-use Rattle.std.specs.Prelude.{ℕ, ◌%◌, false, List, [], ◌∷◌, length, slice_index_or}
+use Rattle.std.specs.Prelude.{ℕ, ◌%◌, false, List, [], ◌∷◌, length, slice_index_or, Option, Some, None}
 use Rattle.finite.specs.Tests.{unless}
 use Rattle.refusal.specs.Refusal.{number_of}
 use Rattle.refusal.specs.declared.Refusal.TheVariants.{OutOfForm, OutOfRange, NotAllowed, NothingAllowed}
 use Rattle.schedule.specs.declared.Step.{Step}
-use Rattle.schedule.specs.declared.rows.Drawn.{Drawn}
-use Rattle.schedule.specs.declared.rows.Drawn.TheVariants.{Nothing}
-use Rattle.schedule.specs.declared.rows.Drawn.TheVariants as drawn
 use Rattle.schedule.specs.Rules.{Rules, in_range}
 use Rattle.schedule.specs.Listing.{listed, quiescent}
 use Rattle.schedule.specs.Outcome.{StepOutcome, step_made, step_refused, RunOutcome}
@@ -17,9 +14,9 @@ onward [] stop go = stop
 onward (s ∷ l) stop go = go s
 
 -- "A draw d (16 bits) picks entry d mod c, counted from 0, of the c allowed steps" (Stations that meet)
-unfoldable pub picked : List Step → ℕ → Drawn
-picked [] d = Nothing
-picked (s ∷ l) d = drawn.Step (slice_index_or (s ∷ l) (d % length (s ∷ l)) s)
+unfoldable pub picked : List Step → ℕ → Option Step
+picked [] d = None
+picked (s ∷ l) d = Some (slice_index_or (s ∷ l) (d % length (s ∷ l)) s)
 
 module _ {Net : Type 0} (R : Rules Net) where
   -- "a step goes 11, 12, 13" (Causes and numbers)
@@ -31,9 +28,9 @@ module _ {Net : Type 0} (R : Rules Net) where
       (step_made s (R.apply net s))))
 
   -- the step that was picked is made; "draw with nothing allowed" (Causes and numbers) makes none
-  abbrev pub draw_from : Net → Drawn → StepOutcome Net
-  draw_from net Nothing = step_refused NothingAllowed net
-  draw_from net (drawn.Step s) = step_made s (R.apply net s)
+  abbrev pub draw_from : Net → Option Step → StepOutcome Net
+  draw_from net None = step_refused NothingAllowed net
+  draw_from net (Some s) = step_made s (R.apply net s)
 
   -- "a draw 11, 14" (Causes and numbers)
   unfoldable pub draw_on : Net → ℕ → StepOutcome Net

@@ -1,12 +1,8 @@
 -- What a single step, a draw and a run come to: document 01's number (0 is no refusal), the values given with it, and the net.
-use Rattle.std.specs.Prelude.{ℕ, Bool, List, [], ◌∷◌}
+use Rattle.std.specs.Prelude.{ℕ, Bool, List, [], ◌∷◌, Result, Ok, Err}
 use Rattle.refusal.specs.declared.Refusal.{Refusal}
 use Rattle.refusal.specs.Refusal.{number_of}
 use Rattle.schedule.specs.declared.Step.{Step}
-use Rattle.schedule.specs.declared.Answer.{Answer}
-use Rattle.schedule.specs.declared.Answer.TheVariants.{Made, Refused}
-use Rattle.schedule.specs.declared.RunAnswer.{RunAnswer}
-use Rattle.schedule.specs.declared.RunAnswer.TheVariants as run
 use Rattle.schedule.specs.declared.Ran.{Ran}
 
 -- a single step or a draw: the step made stands in `made`, and nothing where it is refused
@@ -24,9 +20,9 @@ abbrev pub step_refused : {Net : Type 0} → Refusal → Net → StepOutcome Net
 step_refused r net = record { number = number_of r; made = []; net = net }
 
 -- the number and the values of each answer, with the net beside it
-abbrev pub step_outcome_of : {Net : Type 0} → Answer → Net → StepOutcome Net
-step_outcome_of (Made s) net = step_made s net
-step_outcome_of (Refused r) net = step_refused r net
+abbrev pub step_outcome_of : {Net : Type 0} → Result Step Refusal → Net → StepOutcome Net
+step_outcome_of (Ok s) net = step_made s net
+step_outcome_of (Err r) net = step_refused r net
 
 -- a run: "it gives the net, the number of steps made and whether it is at rest" (Stations that meet), or number 11 with net and steps
 pub record RunOutcome (Net : Type 0) : Type 0 where
@@ -36,9 +32,9 @@ pub record RunOutcome (Net : Type 0) : Type 0 where
   pub net : Net
 
 -- the number of each answer of a run
-abbrev pub run_number_of : RunAnswer → ℕ
-run_number_of run.Stopped = 0
-run_number_of (run.Refused r) = number_of r
+abbrev pub run_number_of : Result (Unit {0}) Refusal → ℕ
+run_number_of (Ok u) = 0
+run_number_of (Err r) = number_of r
 
 -- what a run gives, with the net beside it
 abbrev pub run_outcome_of : {Net : Type 0} → Ran → Net → RunOutcome Net

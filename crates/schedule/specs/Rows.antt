@@ -1,13 +1,10 @@
 -- The list of allowed steps by rows: for each sender and kind, the set of the receivers. What the code of every kind of net searches.
-use Rattle.std.specs.Prelude.{ℕ, zero, suc, ◌+◌, ◌-◌, ◌*◌, ◌%◌, ◌^◌, Bool, cond, List, [], ◌∷◌, map, length, ◌==◌, nat_lt, slice_index}
+use Rattle.std.specs.Prelude.{ℕ, zero, suc, ◌+◌, ◌-◌, ◌*◌, ◌%◌, ◌^◌, Bool, cond, List, [], ◌∷◌, map, length, ◌==◌, nat_lt, slice_index, Option, None, Result, Ok, Err}
 use mathlib.Core.List.{flat_map}
+use Rattle.std.specs.Result.{result_ok}
 use Rattle.bitset.specs.Set.{member, size}
 use Rattle.schedule.specs.declared.Step.{Step}
-use Rattle.schedule.specs.declared.rows.Entry.{Entry}
-use Rattle.schedule.specs.declared.rows.Entry.TheVariants.{At, Beyond}
 use Rattle.schedule.specs.declared.rows.Sizes.{Sizes}
-use Rattle.schedule.specs.declared.rows.Drawn.{Drawn}
-use Rattle.schedule.specs.declared.rows.Drawn.TheVariants as drawn
 use Rattle.schedule.specs.Listing.{range, select, step}
 
 -- Parts of the list of all steps, by kind, then sender, then receiver, rising: each is taken from where a scan stands, what it has still to
@@ -19,10 +16,10 @@ steps_from w kind s r = map (step kind s) (range r w)
 unfoldable pub steps_of_kind : ℕ → ℕ → ℕ → ℕ → List Step
 steps_of_kind w k kind s = flat_map (λ (s : ℕ). steps_from w kind s 0) (range s k)
 
--- entry n of a list, counted from 0
-unfoldable pub entry : List Step → ℕ → Entry
-entry [] n = Beyond n
-entry (s ∷ l) zero = At s
+-- entry n of a list, counted from 0, or how many entries are still to pass where the list is too short
+unfoldable pub entry : List Step → ℕ → Result Step ℕ
+entry [] n = Err n
+entry (s ∷ l) zero = Ok s
 entry (s ∷ l) (suc n) = entry l n
 
 -- the row of a kind, counted from 1, and a sender: four rows a sender
@@ -34,7 +31,7 @@ unfoldable pub in_rows : List ℕ → Step → Bool
 in_rows rows s = member s.receiver (row_at rows s.kind s.sender)
 
 -- entry n of the steps of a kind that the rows list
-abbrev pub entry_of_kind : List ℕ → ℕ → ℕ → ℕ → Entry
+abbrev pub entry_of_kind : List ℕ → ℕ → ℕ → ℕ → Result Step ℕ
 entry_of_kind rows k kind n = entry (select (in_rows rows) (steps_of_kind 64 k kind 0)) n
 
 -- how many steps of a kind the rows list
@@ -62,7 +59,7 @@ unfoldable pub total_of : Sizes → ℕ
 total_of z = (((z.first + z.second) % 2 ^ 32 + z.third) % 2 ^ 32 + z.fourth) % 2 ^ 32
 
 -- entry n of all steps, searched by sizes: a kind that ends before it is passed by its size
-unfoldable pub entry_by_size : List ℕ → Sizes → ℕ → ℕ → Entry
+unfoldable pub entry_by_size : List ℕ → Sizes → ℕ → ℕ → Result Step ℕ
 entry_by_size rows z k n =
     cond (nat_lt n z.first) (entry_of_kind rows k 1 n)
     (cond (nat_lt (n - z.first) z.second) (entry_of_kind rows k 2 (n - z.first))
@@ -70,20 +67,19 @@ entry_by_size rows z k n =
     (entry_of_kind rows k 4 (n - z.first - z.second - z.third))))
 
 -- the step that was found, if any was
-abbrev pub step_found : Entry → Drawn
-step_found (At s) = drawn.Step s
-step_found (Beyond n) = drawn.Nothing
+abbrev pub step_found : Result Step ℕ → Option Step
+step_found found = result_ok found
 
 -- what a draw picks, searched by sizes: of any rows and sizes, and of those of a net's allowed steps what `picked` says (proofs/Sized)
-unfoldable pub picked_by_size : List ℕ → Sizes → ℕ → ℕ → Drawn
-picked_by_size rows z k d = cond (total_of z == 0) drawn.Nothing (step_found (entry_by_size rows z k (d % total_of z)))
+unfoldable pub picked_by_size : List ℕ → Sizes → ℕ → ℕ → Option Step
+picked_by_size rows z k d = cond (total_of z == 0) None (step_found (entry_by_size rows z k (d % total_of z)))
 
 -- A fifth kind has rows of its own, in a list beside them: entry n of all steps, where those of the fifth kind go after the others
-unfoldable pub entry_beside : List ℕ → Sizes → List ℕ → ℕ → ℕ → Entry
+unfoldable pub entry_beside : List ℕ → Sizes → List ℕ → ℕ → ℕ → Result Step ℕ
 entry_beside rows z more k n = cond (nat_lt n (total_of z)) (entry_by_size rows z k n) (entry_of_kind more k 5 (n - total_of z))
 
 -- what a draw picks of them
-unfoldable pub picked_beside : List ℕ → Sizes → List ℕ → ℕ → ℕ → Drawn
+unfoldable pub picked_beside : List ℕ → Sizes → List ℕ → ℕ → ℕ → Option Step
 picked_beside rows z more k d =
     let c = (total_of z + size_of more k 5) % 2 ^ 32 in
-    cond (c == 0) drawn.Nothing (step_found (entry_beside rows z more k (d % c)))
+    cond (c == 0) None (step_found (entry_beside rows z more k (d % c)))

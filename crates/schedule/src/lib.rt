@@ -1,9 +1,9 @@
-// What the calls of every kind of net share: a step, and what a step, a draw or a run gives. Listing, draws, runs and lists of calls are in specs/.
+// What the calls of every kind of net share: a step, which a single step or a draw gives where it makes one, and what a run gives. Listing, draws,
+// runs and lists of calls are in specs/.
 #![tactic(auto)]
 
 ghost use Rattle.std.specs.Prelude.{◌≡◌, false};
 ghost use Rattle.refusal.specs.declared.Refusal.TheVariants.{OutOfForm};
-ghost use Rattle.schedule.specs.declared.RunAnswer.TheVariants as run;
 
 use refusal::Refusal;
 
@@ -17,34 +17,20 @@ pub struct Step {
     pub receiver: u8,
 }
 
-// What a single step or a draw answers: the step made, or why none was.
-#[derive(Clone, Copy)]
-pub enum Answer {
-    Made(Step),
-    Refused(Refusal),
-}
-
-// What a run answers.
-#[derive(Clone, Copy)]
-pub enum RunAnswer {
-    Stopped,
-    Refused(Refusal),
-}
-
-// What a run gives beside the net: its answer, the steps made, and whether the net reached is quiescent (01: at rest).
+// What a run gives beside the net: why it was refused, if it was, the steps made, and whether the net reached is quiescent (01: at rest).
 #[derive(Clone, Copy)]
 pub struct Ran {
-    pub answer: RunAnswer,
+    pub answer: Result<(), Refusal>,
     pub steps: usize,
     pub at_rest: bool,
 }
 
 // What a run gives that stops in form.
 pub fn stop(steps: usize, rest: bool) -> Ran
-    ensures { result ≡ record { answer = run.Stopped; steps = steps; at_rest = rest } }
+    ensures { result ≡ record { answer = Ok tt; steps = steps; at_rest = rest } }
 {
     Ran {
-        answer: RunAnswer::Stopped,
+        answer: Ok(()),
         steps: steps,
         at_rest: rest,
     }
@@ -52,10 +38,10 @@ pub fn stop(steps: usize, rest: bool) -> Ran
 
 // What a run gives that starts outside the form, or has left it.
 pub fn stop_outside(steps: usize) -> Ran
-    ensures { result ≡ record { answer = run.Refused OutOfForm; steps = steps; at_rest = false } }
+    ensures { result ≡ record { answer = Err OutOfForm; steps = steps; at_rest = false } }
 {
     Ran {
-        answer: RunAnswer::Refused(Refusal::OutOfForm),
+        answer: Err(Refusal::OutOfForm),
         steps: steps,
         at_rest: false,
     }

@@ -8,20 +8,6 @@ use crate::Step;
 use bitset::contains;
 use std::num::{wrapping_add_u32, wrapping_sub_u32};
 
-// What a search for an entry of a list by its number finds: the entry, or, where the list is too short, how many entries are still to pass.
-#[derive(Clone, Copy)]
-pub(crate) enum Entry {
-    At(Step),
-    Beyond(u32),
-}
-
-// The step that a draw picks, where one is allowed.
-#[derive(Clone, Copy)]
-pub enum Drawn {
-    Step(Step),
-    Nothing,
-}
-
 // How many steps rows list, by kind: a sender has four rows, of kinds 1 to 4. A net that has a fifth kind has its rows beside them.
 #[derive(Clone, Copy)]
 pub struct Sizes {
@@ -49,9 +35,10 @@ fn row_size(row: u64) -> u32
     }
 }
 
-// Entry `index`, counted from 0, of the steps of one kind. The scan over senders and receivers is left once it is met; a row that ends
-// before it is passed by its size, and eight receivers of whom none is in it by one test.
-fn find_of_kind(rows: &[u64], kind: u8, k: u8, index: u32) -> Entry
+// Entry `index`, counted from 0, of the steps of one kind, or how many entries are still to pass where the list is too short. The scan over
+// senders and receivers is left by its label once the entry is met, which is document 01's form. A row that ends before it is passed by its
+// size, and eight receivers of whom none is in the row by one test: a `for`, which goes one by one, has no such step.
+fn find_of_kind(rows: &[u64], kind: u8, k: u8, index: u32) -> Result<Step, u32>
     requires { 1 ≤ kind }
     ensures { result ≡ Rows.entry_of_kind rows.now k kind index }
 {
@@ -82,13 +69,13 @@ fn find_of_kind(rows: &[u64], kind: u8, k: u8, index: u32) -> Entry
         sender += 1;
     }
     if sender < k {
-        return Entry::At(Step {
+        return Ok(Step {
             kind: kind,
             sender: sender,
             receiver: receiver,
         });
     }
-    Entry::Beyond(left)
+    Err(left)
 }
 
 // No steps.
@@ -140,7 +127,7 @@ pub fn total(sizes: Sizes) -> u32
 }
 
 // Entry `index`, counted from 0, of all steps: a kind that ends before it is passed by its size.
-fn find(rows: &[u64], sizes: Sizes, k: u8, index: u32) -> Entry
+fn find(rows: &[u64], sizes: Sizes, k: u8, index: u32) -> Result<Step, u32>
     ensures { result ≡ Rows.entry_by_size rows.now sizes k index }
 {
     if index < sizes.first {
@@ -157,20 +144,16 @@ fn find(rows: &[u64], sizes: Sizes, k: u8, index: u32) -> Entry
     find_of_kind(rows, 4, k, third - sizes.third)
 }
 
-// Entry d mod c, counted from 0, of the c steps that the sizes add up to.
-pub fn pick(rows: &[u64], sizes: Sizes, k: u8, d: u16) -> Drawn
+// Entry d mod c, counted from 0, of the c steps that the sizes add up to, if there are any.
+pub fn pick(rows: &[u64], sizes: Sizes, k: u8, d: u16) -> Option<Step>
     ensures { result ≡ Rows.picked_by_size rows.now sizes k d }
 {
     let c = total(sizes);
     if c == 0 {
-        return Drawn::Nothing;
+        return None;
     }
-    let found = find(rows, sizes, k, d as u32 % c);
-    match found {
-        Entry::At(step) => Drawn::Step(step),
-        // Only where the sizes are not those of the rows.
-        Entry::Beyond(_) => Drawn::Nothing,
-    }
+    // None is found only where the sizes are not those of the rows.
+    find(rows, sizes, k, d as u32 % c).ok()
 }
 
 // More than all steps of a kind.
@@ -183,14 +166,14 @@ fn count_of_kind(rows: &[u64], kind: u8, k: u8) -> u32
 {
     let found = find_of_kind(rows, kind, k, MOST);
     match found {
-        Entry::At(_) => 0,
-        Entry::Beyond(left) => MOST - left,
+        Ok(_) => 0,
+        Err(left) => MOST - left,
     }
 }
 
 // The step that is entry `index`, counted from 0, of all steps, those of the fifth kind after the others. Of the others it is what a draw of `index`
 // picks, which is below their total: so `find` has one caller, and the compiler makes it part of that.
-fn find_beside(rows: &[u64], sizes: Sizes, more: &[u64], k: u8, index: u32) -> Drawn
+fn find_beside(rows: &[u64], sizes: Sizes, more: &[u64], k: u8, index: u32) -> Option<Step>
     requires { index < 65536 }
     ensures { result ≡ Rows.step_found (Rows.entry_beside rows.now sizes more.now k index) }
 {
@@ -198,21 +181,17 @@ fn find_beside(rows: &[u64], sizes: Sizes, more: &[u64], k: u8, index: u32) -> D
     if index < before {
         return pick(rows, sizes, k, index as u16);
     }
-    let found = find_of_kind(more, 5, k, index - before);
-    match found {
-        Entry::At(step) => Drawn::Step(step),
-        // Only where the sizes are not those of the rows.
-        Entry::Beyond(_) => Drawn::Nothing,
-    }
+    // None is found only where the sizes are not those of the rows.
+    find_of_kind(more, 5, k, index - before).ok()
 }
 
 // Entry d mod c, counted from 0, of the c steps of five kinds: of the four that the sizes add up to, and of the fifth, which has rows of its own.
-pub fn pick_beside(rows: &[u64], sizes: Sizes, more: &[u64], k: u8, d: u16) -> Drawn
+pub fn pick_beside(rows: &[u64], sizes: Sizes, more: &[u64], k: u8, d: u16) -> Option<Step>
     ensures { result ≡ Rows.picked_beside rows.now sizes more.now k d }
 {
     let c = wrapping_add_u32(total(sizes), count_of_kind(more, 5, k));
     if c == 0 {
-        return Drawn::Nothing;
+        return None;
     }
     find_beside(rows, sizes, more, k, d as u32 % c)
 }
