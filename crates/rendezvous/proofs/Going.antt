@@ -1,5 +1,6 @@
 -- The loop of a run, as the code has it: what every station may send, who is in which state, and the rows are known of the net reached. A step
 -- changes two stations, one after the other. Assumes nothing.
+use Rattle.std.specs.Prelude.{Option, Some, None}
 use mathlib.Core.Path.{◌≡◌, sym, ◌∙◌, ap, ap₂, subst}
 use mathlib.Core.Bool.{true, false}
 use mathlib.Core.List.{List}
@@ -25,8 +26,6 @@ use Rattle.station.specs.declared.Station.{Station}
 use Rattle.station.specs.Events.{asleep, active}
 use Rattle.stations.specs.Stations.{no_station}
 use Rattle.schedule.specs.declared.Step.{Step}
-use Rattle.schedule.specs.declared.rows.Drawn.{Drawn}
-use Rattle.schedule.specs.declared.rows.Drawn.TheVariants as drawn
 use Rattle.schedule.specs.declared.rows.Sizes.{Sizes}
 use Rattle.schedule.specs.Rules.{allowed}
 use Rattle.schedule.specs.Rows.{row_at}
@@ -154,11 +153,11 @@ module _ {first : Net} {draws : List ℕ} {here : Net} {states : States} {kept r
   config_low e = rw e (few, root_most here formed)
 
   -- t is what the code has read of the net, and p what it has drawn
-  module _ {t : Config} (told : t ≡ here.config) (h : made < length draws) {p : Drawn} (e : p ≡ picked (listed rules here) (get_or draws made 0)) where
-    pub rests : p ≡ drawn.Nothing → run_on rules first draws ≡ record { number = 0; steps = made; rest = true; net = here }
+  module _ {t : Config} (told : t ≡ here.config) (h : made < length draws) {p : Option Step} (e : p ≡ picked (listed rules here) (get_or draws made 0)) where
+    pub rests : p ≡ None → run_on rules first draws ≡ record { number = 0; steps = made; rest = true; net = here }
     rests q = at-rest_with rules G.running h e q
 
-    module _ {s : Step} (q : p ≡ drawn.Step s) where
+    module _ {s : Step} (q : p ≡ Some s) where
       may : allowed rules here s ≡ true
       may = drawn_allowed rules here _ e q
 

@@ -1,5 +1,6 @@
 -- The receivers that the code finds for a kind and a sender are those of the steps allowed: member by member, each guard's tests in another
 -- order. So the rows of who can take what may be sent are those of the net. Assumes nothing.
+use Rattle.std.specs.Prelude.{Option}
 use mathlib.Core.Path.{◌≡◌, refl, sym, ◌∙◌, ap, ap₂, subst}
 use mathlib.Core.Bool.{Bool, true, false, not, ◌&&◌, cond, and-true, and-false, and_comm}
 use mathlib.Core.List.{List}
@@ -18,9 +19,9 @@ use Rattle.bitset.proofs.Selected.{set-lt, set_has, bit_has, member-and}
 use Rattle.aggregate.specs.declared.Config.{Config}
 use Rattle.station.specs.declared.Station.{Station}
 use Rattle.station.specs.Events.{asleep, active, may_send_start, may_report, may_answer, ready}
+use Rattle.schedule.specs.declared.Step.{Step}
 use Rattle.schedule.specs.declared.rows.Sizes.{Sizes}
 use Rattle.schedule.specs.Rules.{in_range, allowed}
-use Rattle.schedule.specs.declared.rows.Drawn.{Drawn}
 use Rattle.schedule.specs.Listing.{step, listed}
 use Rattle.schedule.specs.Rows.{picked_by_size}
 use Rattle.schedule.specs.Draws.{picked}
@@ -130,7 +131,7 @@ rows_filled net sent few are e H =
 
 -- so what is picked by them, where nothing is carried back, is what a draw picks
 pub picked-flat : (net : Net) {rows : List ℕ} {z : Sizes} → Filled rules net rows z → (net.carrying ≡ 1 → ⊥) → {t : Config} → t ≡ net.config
-    → (d : ℕ) {p : Drawn} → p ≡ picked_by_size rows z t.k d → p ≡ picked (listed rules net) d
+    → (d : ℕ) {p : Option Step} → p ≡ picked_by_size rows z t.k d → p ≡ picked (listed rules net) d
 picked-flat net {rows = rows} {z = z} F flat told d e =
     let four : rules.kinds net ≤ 4 = subst (λ (b : Bool). cond b tell report ≤ 4) (sym (ne_eqb net.carrying 1 flat)) (omega arith) in
     of_list rules net F four d (e ∙ ap (λ (t : Config). picked_by_size rows z t.k d) told)

@@ -1,5 +1,6 @@
 -- The rows of the tells, found receiver by receiver: at most one station may tell each. With them the rows list what a net that carries back
 -- allows. Assumes nothing.
+use Rattle.std.specs.Prelude.{Option, Some, None}
 use mathlib.Core.Path.{◌≡◌, sym, ◌∙◌, ap}
 use mathlib.Core.Bool.{Bool, true, false, not, ◌||◌, and-false}
 use mathlib.Core.List.{List}
@@ -22,7 +23,7 @@ use Rattle.station.specs.declared.Station.{Station}
 use Rattle.rendezvous.specs.Net.{Net, carries, net_in, station}
 use Rattle.rendezvous.specs.Telling.{tell, is_reported, knows, may_tell}
 use Rattle.rendezvous.specs.Rules.{rules}
-use Rattle.rendezvous.specs.Internal.Receivers.{Teller, AreTells}
+use Rattle.rendezvous.specs.Internal.Receivers.{Untold, ToldBy, Teller, AreTells}
 
 -- the place of a sender's row
 place : (s : ℕ) → 4 * s + tell - 1 ≡ 4 * s + 4
@@ -50,23 +51,23 @@ module _ (net : Net) (few : net.config.k ≤ 64) where
         row = λ s l. empty_row s l ∙ sym (set-none net.config.k _ (λ i. rw e));
       }
 
-  module _ {n : ℕ} {tells : List ℕ} (A : AreTells net n tells) (low : n < 64) {p : ℕ} (T : Teller net n p) where
-    -- the row of a sender that is not the teller
-    row_as : (s : ℕ) → s < net.config.k → (s ≡ p → ⊥) → row_at tells tell s ≡ set_of (n + 1) (λ i. may_tell net s i)
-    row_as s l o =
+  module _ {n : ℕ} {tells : List ℕ} (A : AreTells net n tells) (low : n < 64) where
+    -- the row of a sender that does not tell it
+    row_as : (s : ℕ) → s < net.config.k → may_tell net s n ≡ false → row_at tells tell s ≡ set_of (n + 1) (λ i. may_tell net s i)
+    row_as s l untold =
         sym (add-zero (row_at tells tell s))
-        ∙ (set_next (λ i. may_tell net s i) n low (A.row s l) (no_bit n ∙ ap (λ (b : Bool). bit_if b n) (sym (T.only s l ∙ ne_eqb s p o)))).0
+        ∙ (set_next (λ i. may_tell net s i) n low (A.row s l) (no_bit n ∙ ap (λ (b : Bool). bit_if b n) (sym untold))).0
 
     -- nobody tells it
-    pub tells_skip : net.config.k ≤ p → AreTells net (n + 1) tells
-    tells_skip h = record { sized = A.sized; row = λ s l. row_as s l (λ e. omega arith) }
+    pub tells_skip : Untold net n → AreTells net (n + 1) tells
+    tells_skip U = record { sized = A.sized; row = λ s l. row_as s l (U.nobody s l) }
 
     -- p does
-    module _ (in_net : p < net.config.k) {x : ℕ} (bit : x ≡ bit_if true n) where
+    module _ {p : ℕ} (T : ToldBy net n p) {x : ℕ} (bit : x ≡ bit_if true n) where
       own_next : (get_or tells (4 * p + 4) 0 + x ≡ set_of (n + 1) (λ i. may_tell net p i)) × (get_or tells (4 * p + 4) 0 + x < 2 ^ 64)
       own_next =
-          set_next (λ i. may_tell net p i) n low (ap (λ (i : ℕ). get_or tells i 0) (sym (place p)) ∙ A.row p in_net)
-          (bit ∙ ap (λ (b : Bool). bit_if b n) (sym (T.only p in_net ∙ eqb_self p)))
+          set_next (λ i. may_tell net p i) n low (ap (λ (i : ℕ). get_or tells i 0) (sym (place p)) ∙ A.row p T.low)
+          (bit ∙ ap (λ (b : Bool). bit_if b n) (sym (T.only p T.low ∙ eqb_self p)))
 
       pub tells_fit : get_or tells (4 * p + 4) 0 + x < 2 ^ 64
       tells_fit = own_next.1
@@ -77,57 +78,56 @@ module _ (net : Net) (few : net.config.k ≤ 64) where
           record {
             sized = length-set tells (4 * p + 4) v ∙ A.sized;
             row = λ s l. by_eq s p
-                (λ (e : s ≡ p). rw (e, place p) (get_or-set_same tells (4 * p + 4) v 0 (omega (arith, A.sized)) ∙ own_next.0))
-                (λ o. get_or-set_other tells (4 * p + 4) (4 * s + tell - 1) v 0 (λ q. o (omega arith)) ∙ row_as s l o);
+                (λ (e : s ≡ p). rw (e, place p) (get_or-set_same tells (4 * p + 4) v 0 (omega (arith, A.sized, T.low, few)) ∙ own_next.0))
+                (λ o. get_or-set_other tells (4 * p + 4) (4 * s + tell - 1) v 0 (λ q. o (omega arith))
+                ∙ row_as s l (T.only s l ∙ ne_eqb s p o));
           }
 
 -- ---- who may tell a station, once the desk has reported
-module _ (net : Net) (few : net.config.k ≤ 64) (rep : is_reported net ≡ true) (i : ℕ) where
+module _ (net : Net) (rep : is_reported net ≡ true) (i : ℕ) where
   abbrev root : ℕ
   root = root_of net.config
 
   abbrev r : Station
   r = station net i
 
-  pub no_teller : (eqb i root || not (eqb r.state 2) || leb 64 r.parent) ≡ true → Teller net i 64
+  pub no_teller : (eqb i root || not (eqb r.state 2) || leb net.config.k r.parent) ≡ true → Untold net i
   unfolding may_tell
   no_teller h =
       record {
-        only = λ s l.
-            let none : may_tell net s i ≡ false =
-            by-sum (or_cases (eqb i root || not (eqb r.state 2)) (leb 64 r.parent) h)
+        nobody = λ s l.
+            by-sum (or_cases (eqb i root || not (eqb r.state 2)) (leb net.config.k r.parent) h)
             (λ a. by-sum (or_cases (eqb i root) (not (eqb r.state 2)) a)
             (λ e. rw e (simp and-false))
             (λ e. rw (not-true (eqb r.state 2) e) (simp and-false)))
-            (λ e. rw (ne_eqb r.parent s (λ q. omega (arith, leb-true 64 r.parent e, q))) (simp and-false)) in
-            none ∙ sym (ne_eqb s 64 (λ e. omega arith));
+            (λ e. rw (ne_eqb r.parent s (λ q. omega (arith, leb-true net.config.k r.parent e, q))) (simp and-false));
       }
 
   module _ (other : eqb i root ≡ false) (done : eqb r.state 2 ≡ true) where
-    pub is_teller : knows net r.parent ≡ true → Teller net i r.parent
+    pub is_teller : r.parent < net.config.k → knows net r.parent ≡ true → ToldBy net i r.parent
     unfolding may_tell
-    is_teller k =
+    is_teller low k =
         record {
+          low = low;
           only = λ s l. by_eq s r.parent
               (λ (e : s ≡ r.parent). rw (e, eqb_self r.parent, k, rep, done, other))
               (λ o. rw (ne_eqb s r.parent o, ne_eqb r.parent s (λ q. o (sym q))) (simp and-false));
         }
 
-    pub untold_teller : knows net r.parent ≡ false → Teller net i 64
+    pub untold_teller : knows net r.parent ≡ false → Untold net i
     unfolding may_tell
     untold_teller k =
         record {
-          only = λ s l.
-              let none : may_tell net s i ≡ false = by_eq s r.parent
+          nobody = λ s l. by_eq s r.parent
               (λ (e : s ≡ r.parent). rw (e, k) (simp and-false))
-              (λ o. rw (ne_eqb r.parent s (λ q. o (sym q))) (simp and-false)) in
-              none ∙ sym (ne_eqb s 64 (λ e. omega arith));
+              (λ o. rw (ne_eqb r.parent s (λ q. o (sym q))) (simp and-false));
         }
 
 -- what is kept says nothing of tells
-pub teller_any : (words kept other : List ℕ) (i p : ℕ) → Teller (net_in words kept) i p → Teller (net_in words other) i p
+pub teller_any : (words kept other : List ℕ) (i : ℕ) (p : Option ℕ) → Teller (net_in words kept) i p → Teller (net_in words other) i p
 unfolding may_tell
-teller_any words kept other i p T = record { only = T.only }
+teller_any words kept other i None T = record { nobody = T.nobody }
+teller_any words kept other i (Some p) T = record { low = T.low; only = T.only }
 
 pub tells_any : (words kept other : List ℕ) (n : ℕ) (tells : List ℕ) → AreTells (net_in words kept) n tells → AreTells (net_in words other) n tells
 unfolding may_tell

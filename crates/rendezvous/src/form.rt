@@ -71,7 +71,8 @@ pub(crate) fn read(net: &[u64; 705], i: u8) -> Station
     stations::load(net, place(i))
 }
 
-// Whether the net is well-formed (01: in form).
+// Whether the net is well-formed (01: in form). This loop and that of `survey` ask for the flag themselves: one function for a place in either
+// opening copied the station, and a draw of 64 stations took a fifth longer.
 pub fn is_well_formed(net: &[u64; 705], totals: &[u64; 576]) -> bool
     ensures { result ≡ well_formed (net_in net.now totals.now) }
 {
@@ -84,8 +85,7 @@ pub fn is_well_formed(net: &[u64; 705], totals: &[u64; 576]) -> bool
         return false;
     }
     let k = t.k;
-    let mut i: u8 = 0;
-    while i < k {
+    for i in 0..k {
         let s = read(net, i);
         let placed = if carrying == CARRYING {
             is_carrying_place(t, i, s, totals)
@@ -95,7 +95,6 @@ pub fn is_well_formed(net: &[u64; 705], totals: &[u64; 576]) -> bool
         if !placed {
             return false;
         }
-        i += 1;
     }
     true
 }

@@ -11,8 +11,7 @@ ghost use Rattle.rendezvous.specs.Opening.{rendezvous_opening};
 
 use linemap::{FreshFault, Map};
 use refusal::Refusal;
-use schedule::rows::Drawn;
-use schedule::{Answer, Ran, Step};
+use schedule::{Ran, Step};
 
 mod figure;
 mod form;
@@ -58,48 +57,41 @@ pub fn fresh(
 }
 
 // One step: refused by 11, 12 or 13, or made.
-pub fn step(net: &mut [u64; 705], totals: &mut [u64; 576], step: Step) -> Answer
+pub fn step(net: &mut [u64; 705], totals: &mut [u64; 576], step: Step) -> Result<Step, Refusal>
     ensures outcome { step_outcome_of result (net_in net.new totals.new) ≡ step_on rules (net_in net.old totals.old) step }
     ensures beside { beside_in net.new ≡ beside_in net.old }
 {
     if !is_well_formed(net, totals) {
-        return Answer::Refused(Refusal::OutOfForm);
+        return Err(Refusal::OutOfForm);
     }
     let t = stations::config_in(net);
     if !figure::is_in_range(t, form::carrying_in(net), step) {
-        return Answer::Refused(Refusal::OutOfRange);
+        return Err(Refusal::OutOfRange);
     }
     if !figure::is_allowed(net, t, step) {
-        return Answer::Refused(Refusal::NotAllowed);
+        return Err(Refusal::NotAllowed);
     }
     figure::make(net, totals, t, step);
-    Answer::Made(step)
+    Ok(step)
 }
 
 // The step that a draw picks, made: refused by 11, or by 14 where no step is allowed.
-pub fn draw(net: &mut [u64; 705], totals: &mut [u64; 576], d: u16) -> Answer
+pub fn draw(net: &mut [u64; 705], totals: &mut [u64; 576], d: u16) -> Result<Step, Refusal>
     ensures outcome { step_outcome_of result (net_in net.new totals.new) ≡ draw_on rules (net_in net.old totals.old) d }
     ensures beside { beside_in net.new ≡ beside_in net.old }
 {
     let mut kept = [0u64; 192];
-    let found = listing::survey(net, totals, &mut kept);
-    if !found.formed {
-        return Answer::Refused(Refusal::OutOfForm);
-    }
+    let states = listing::survey(net, totals, &mut kept).ok_or(Refusal::OutOfForm)?;
     let t = stations::config_in(net);
-    let states = found.states;
     let mut rows = [0u64; 256];
     let sizes = listing::fill(&mut rows, t.k, &kept, states);
-    let drawn = listing::choose(net, &rows, sizes, t, d);
-    let Drawn::Step(step) = drawn else {
-        return Answer::Refused(Refusal::NothingAllowed);
-    };
+    let step = listing::choose(net, &rows, sizes, t, d).ok_or(Refusal::NothingAllowed)?;
     figure::make(net, totals, t, step);
-    Answer::Made(step)
+    Ok(step)
 }
 
-// The steps that the draws pick, one after the other, until they are used up, one is refused, or the form is left. The counter is the place
-// among the draws and the number of steps made. The form is tested once: after that, only the receiver can break it. What
+// The steps that the draws pick, one after the other, until they are used up, one is refused, or the form is left. A draw's place among
+// them is the number of steps made before it. The form is tested once: after that, only the receiver can break it. What
 // the stations may send is kept, and only that of the two that a step changes is found anew; the rows follow each step. A draw chooses
 // as in `choose`, which is not called for it: a net without carrying back pays one test.
 pub fn run(net: &mut [u64; 705], totals: &mut [u64; 576], draws: &[u16]) -> Ran
@@ -108,35 +100,32 @@ pub fn run(net: &mut [u64; 705], totals: &mut [u64; 576], draws: &[u16]) -> Ran
 {
     let mut kept = [0u64; 192];
     let found = listing::survey(net, totals, &mut kept);
-    if !found.formed {
+    let Some(mut states) = found else {
         return schedule::stop_outside(0);
-    }
+    };
     let k = stations::config_in(net).k;
-    let mut states = found.states;
     let mut rows = [0u64; 256];
     let mut sizes = listing::fill(&mut rows, k, &kept, states);
-    let mut made: usize = 0;
-    while made < draws.len() {
+    for (made, d) in draws.iter().enumerate() {
         let t = stations::config_in(net);
         let drawn = if form::carrying_in(net) == CARRYING {
-            listing::choose_beside(net, &rows, sizes, t, draws[made])
+            listing::choose_beside(net, &rows, sizes, t, *d)
         } else {
-            schedule::rows::pick(&rows, sizes, t.k, draws[made])
+            schedule::rows::pick(&rows, sizes, t.k, *d)
         };
-        let Drawn::Step(step) = drawn else {
+        let Some(step) = drawn else {
             return schedule::stop(made, true);
         };
         figure::make(net, totals, t, step);
         let old = states;
         states = listing::renew(&mut kept, states, net, t, step.sender);
         states = listing::renew(&mut kept, states, net, t, step.receiver);
-        made += 1;
         if !form::keeps_form(net, t, step) {
-            return schedule::stop_outside(made);
+            return schedule::stop_outside(made + 1);
         }
         sizes = listing::follow(&mut rows, sizes, t.k, &kept, old, states, step);
     }
     let t = stations::config_in(net);
     let rest = listing::is_at_rest(net, &rows, sizes, t);
-    schedule::stop(made, rest)
+    schedule::stop(draws.len(), rest)
 }

@@ -1,5 +1,5 @@
 // What each station may send, kept while a run goes on, and the rows of the allowed steps: for each sender and kind, the receivers, as a set.
-ghost use Rattle.std.specs.Prelude.{◌≡◌, false, List, ℕ, ◌≤◌, ◌<◌, length, eqb};
+ghost use Rattle.std.specs.Prelude.{◌≡◌, List, ℕ, ◌≤◌, ◌<◌, length, eqb};
 ghost use Rattle.aggregate.specs.Aggregate.{root_of};
 ghost use Rattle.schedule.specs.Listing.{listed};
 ghost use Rattle.schedule.specs.Draws.{picked};
@@ -15,7 +15,7 @@ use crate::{CARRYING, form, telling};
 use aggregate::Config;
 use bitset::bit_if;
 use schedule::Step;
-use schedule::rows::{Drawn, Sizes};
+use schedule::rows::Sizes;
 use station::Station;
 
 // The stations that can take a start, and of these the ones that can take an answer.
@@ -109,44 +109,23 @@ pub(crate) fn renew(
     restate(states, j, s.state)
 }
 
-// What a pass over all stations finds: whether the net is well-formed, and then the states.
-#[derive(Clone, Copy)]
-pub(crate) struct Findings {
-    pub(crate) formed: bool,
-    pub(crate) states: States,
-}
-
-// A net that is not well-formed has nothing else that is asked for.
-fn unformed() -> Findings
-    ensures { result.formed ≡ false }
-{
-    Findings {
-        formed: false,
-        states: States {
-            asleep: 0,
-            active: 0,
-        },
-    }
-}
-
-// One pass over all stations: the form is tested, the states are found, and what each may send is kept.
-pub(crate) fn survey(net: &[u64; 705], totals: &[u64; 576], kept: &mut [u64; 192]) -> Findings
-    requires { length kept.old ≡ 192 }
-    ensures { Surveyed (net_in net.now totals.now) result.formed result.states kept.new }
+// One pass over all stations: the form is tested, the states are found, and what each may send is kept. A net that is not well-formed has
+// nothing else that is asked for.
+pub(crate) fn survey(net: &[u64; 705], totals: &[u64; 576], kept: &mut [u64; 192]) -> Option<States>
+    ensures { Surveyed (net_in net.now totals.now) result kept.new }
 {
     let carrying = form::carrying_in(net);
     if CARRYING < carrying {
-        return unformed();
+        return None;
     }
     let t = stations::config_in(net);
     if !aggregate::is_valid(t) {
-        return unformed();
+        return None;
     }
     let k = t.k;
     let mut asleep: u64 = 0;
     let mut active: u64 = 0;
-    let mut j: u8 = 0;
-    while j < k {
+    for j in 0..k {
         let s = form::read(net, j);
         let placed = if carrying == CARRYING {
             form::is_carrying_place(t, j, s, totals)
@@ -154,21 +133,17 @@ pub(crate) fn survey(net: &[u64; 705], totals: &[u64; 576], kept: &mut [u64; 192
             s.is_well_formed(t, j)
         };
         if !placed {
-            return unformed();
+            return None;
         }
         asleep += bit_if(s.state == station::ASLEEP, j);
         active += bit_if(s.state == station::ACTIVE, j);
         let sends = find_sends(t, j, s);
         keep(kept, j, sends);
-        j += 1;
     }
-    Findings {
-        formed: true,
-        states: States {
-            asleep: asleep,
-            active: active,
-        },
-    }
+    Some(States {
+        asleep: asleep,
+        active: active,
+    })
 }
 
 // The rows of a sender, stored, and the sizes with them: of what it may send, what stations in these states can take. Most may send nothing.
@@ -199,15 +174,13 @@ fn put_rows(rows: &mut [u64; 256], sizes: Sizes, states: States, sender: u8, sen
 
 // The rows of what is kept, stored, and their sizes.
 pub(crate) fn fill(rows: &mut [u64; 256], k: u8, kept: &[u64; 192], states: States) -> Sizes
-    requires { (k ≤ 64) × (length rows.old ≡ 256) }
+    requires { k ≤ 64 }
     ensures { HoldTakers k states (kept_at kept.now) rows.new result }
 {
     let mut sizes = schedule::rows::no_sizes();
-    let mut sender: u8 = 0;
-    while sender < k {
+    for sender in 0..k {
         let sends = read_sends(kept, sender);
         sizes = put_rows(rows, sizes, states, sender, sends);
-        sender += 1;
     }
     sizes
 }
@@ -259,8 +232,7 @@ pub(crate) fn follow(
         return all;
     }
     let both = bitset::union(bit_if(true, step.sender), bit_if(true, step.receiver));
-    let mut x: u8 = 0;
-    while x < k {
+    for x in 0..k {
         let at = x as usize;
         let starts = kept[at];
         let home = kept[64 + at];
@@ -268,7 +240,6 @@ pub(crate) fn follow(
         if met != 0 {
             all = refill(rows, all, kept, states, x);
         }
-        x += 1;
     }
     all
 }
@@ -280,10 +251,9 @@ pub(crate) fn choose_beside(
     sizes: Sizes,
     t: Config,
     d: u16,
-) -> Drawn
+) -> Option<Step>
     requires config { t ≡ config_in net.now }
     requires places { (t.k ≤ 64) × (root_of t < 64) }
-    requires rows { length rows.now ≡ 256 }
     requires back { carrying_in net.now ≡ 1 }
     ensures { (kept : List ℕ) → Filled rules (net_in net.now kept) rows.now sizes
         → result ≡ picked (listed rules (net_in net.now kept)) d }
@@ -294,10 +264,15 @@ pub(crate) fn choose_beside(
 }
 
 // The step that a draw picks.
-pub(crate) fn choose(net: &[u64; 705], rows: &[u64; 256], sizes: Sizes, t: Config, d: u16) -> Drawn
+pub(crate) fn choose(
+    net: &[u64; 705],
+    rows: &[u64; 256],
+    sizes: Sizes,
+    t: Config,
+    d: u16,
+) -> Option<Step>
     requires config { t ≡ config_in net.now }
     requires places { (t.k ≤ 64) × (root_of t < 64) }
-    requires rows { length rows.now ≡ 256 }
     ensures { (kept : List ℕ) → Filled rules (net_in net.now kept) rows.now sizes
         → result ≡ picked (listed rules (net_in net.now kept)) d }
 {
@@ -311,13 +286,8 @@ pub(crate) fn choose(net: &[u64; 705], rows: &[u64; 256], sizes: Sizes, t: Confi
 pub(crate) fn is_at_rest(net: &[u64; 705], rows: &[u64; 256], sizes: Sizes, t: Config) -> bool
     requires config { t ≡ config_in net.now }
     requires places { (t.k ≤ 64) × (root_of t < 64) }
-    requires rows { length rows.now ≡ 256 }
     ensures { (kept : List ℕ) → Filled rules (net_in net.now kept) rows.now sizes
         → result ≡ eqb (length (listed rules (net_in net.now kept))) 0 }
 {
-    let left = choose(net, rows, sizes, t, 0);
-    match left {
-        Drawn::Nothing => true,
-        Drawn::Step(_) => false,
-    }
+    choose(net, rows, sizes, t, 0).is_none()
 }

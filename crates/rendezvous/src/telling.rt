@@ -64,11 +64,8 @@ pub(crate) fn keep_total(totals: &mut [u64; 576], t: Config, step: Step, s: Stat
     }
 }
 
-// No station has this number.
-const NONE: u8 = 64;
-
 // The station that may tell i, once the desk has reported.
-fn find_teller(net: &[u64; 705], t: Config, i: u8) -> u8
+fn find_teller(net: &[u64; 705], t: Config, i: u8) -> Option<u8>
     requires config { t ≡ config_in net.now }
     requires places { (t.k ≤ 64) × ((root_of t < 64) × (i < 64)) }
     requires reported { Rules.is_reported (net_in net.now []) ≡ true }
@@ -77,14 +74,14 @@ fn find_teller(net: &[u64; 705], t: Config, i: u8) -> u8
     let root = aggregate::root(t);
     let s = form::read(net, i);
     let parent = s.parent;
-    if (i == root) | !(s.state == FINISHED) | (NONE <= parent) {
-        return NONE;
+    if (i == root) | !(s.state == FINISHED) | (t.k <= parent) {
+        return None;
     }
     if parent == root {
-        return parent;
+        return Some(parent);
     }
     let p = form::read(net, parent);
-    if p.state == TOLD { parent } else { NONE }
+    if p.state == TOLD { Some(parent) } else { None }
 }
 
 // The rows of the tells, a set of receivers for each sender.
@@ -97,15 +94,12 @@ pub(crate) fn fill_tells(tells: &mut [u64; 260], net: &[u64; 705], t: Config)
     let k = t.k;
     let desk = form::read(net, aggregate::root(t));
     if desk.state == FINISHED {
-        let mut i: u8 = 0;
-        while i < k {
-            let p = find_teller(net, t, i);
-            if p < k {
+        for i in 0..k {
+            if let Some(p) = find_teller(net, t, i) {
                 let at = 4 * (p as usize) + 4;
                 let set = tells[at];
                 tells[at] = set + bitset::bit_if(true, i);
             }
-            i += 1;
         }
     }
 }

@@ -1,80 +1,86 @@
 -- `rendezvous::draw` meets its contract: outside the form a draw is refused, and else what is chosen decides. Assumes nothing.
-use mathlib.Core.Path.{◌≡◌, refl, sym, ◌∙◌, ap, subst}
-use mathlib.Core.Bool.{true}
-use mathlib.Core.List.{List}
-use Prim.Native.Nat.{ℕ, ◌/◌, ◌^◌, ◌≤◌, ◌<◌}
-use lib.ListN.{get_or, set, length-replicate}
-use borrow.Author.Tests.{not-true, not-false}
+use mathlib.Core.Path.{◌≡◌, sym, ◌∙◌, ap, subst}
+use Prim.Native.Nat.{◌≤◌, ◌<◌}
 use Rattle.aggregate.specs.declared.Config.{Config}
 use Rattle.aggregate.specs.Aggregate.{root_of}
+use Rattle.schedule.specs.Listing.{listed}
 use Rattle.schedule.specs.Outcome.{step_made}
-use Rattle.schedule.proofs.Answers.{allowed_parts}
+use Rattle.schedule.specs.Draws.{picked}
+use Rattle.schedule.specs.Internal.Rows.{Filled}
+use Rattle.schedule.proofs.Answers.{allowed_parts, refused_up, outcome_refused}
 use Rattle.schedule.proofs.Outcomes.{draw_unformed}
 use Rattle.schedule.proofs.Drawing.{drawn_nothing, drawn_allowed, drawn_accepted}
-use Rattle.schedule.specs.Internal.Rows.{Filled}
-use Rattle.rendezvous.specs.Net.{Net, net_in, well_formed}
+use Rattle.rendezvous.specs.Net.{Net, net_in}
 use Rattle.rendezvous.specs.Rules.{rules}
+use Rattle.rendezvous.specs.Internal.Receivers.{Found}
 use Rattle.rendezvous.proofs.Laws.{k_most, root_most, places, sums-joinable}
 use Rattle.rendezvous.proofs.RowSets.{rows_filled}
 use Rattle.rendezvous.proofs.Going.{held-told, made-is}
 use Rattle.rendezvous.proofs.draw.Goals as goal
-use Rattle.rendezvous.proofs.draw.Goals.{After-rows-2-1}
+use Rattle.rendezvous.proofs.draw.Goals.{After-fill-sizes, After-choose, In_ok-step}
 
 -- where the rows are filled, they are those of the net
-abbrev net_at : After-rows-2-1 → Net
+abbrev net_at : After-fill-sizes → Net
 net_at c = net_in c.args.net.now c.args.totals.now
 
-well : (c : After-rows-2-1) → well_formed (net_at c) ≡ true
-well c = sym c.survey-found.ensures.form ∙ not-false _ c.if-not-found.false
+found : (c : After-fill-sizes) → Found (net_at c) c.in_ok-states.states c.survey.new.kept
+found c = rw c.in_ok-states.ensures.ok_part at c.survey.ensures
 
-rows_told : (c : After-rows-2-1) → Filled rules (net_at c) c.fill-sizes.new.rows c.fill-sizes.result
+rows_told : (c : After-fill-sizes) → Filled rules (net_at c) c.fill-sizes.new.rows c.fill-sizes.result
 rows_told c =
-    let survey = c.survey-found.ensures in
-    rows_filled (net_at c) _ (k_most (net_at c) (well c)) (survey.sends_are (not-false _ c.if-not-found.false)).word (survey.states_are (not-false _ c.if-not-found.false))
-    (held-told c.config_in-t.ensures c.fill-sizes.ensures)
+    let f = found c in
+    rows_filled (net_at c) _ (k_most (net_at c) f.form) f.sends_are.word f.states_are (held-told c.config_in-t.ensures c.fill-sizes.ensures)
 
-pub survey-found-requires : goal.survey-found-requires
-survey-found-requires c = length-replicate {A = ℕ} 192 0
+-- what is chosen is what the rules pick
+picks : (c : After-choose) → Filled rules (net_in c.args.net.now c.args.totals.now) c.fill-sizes.new.rows c.fill-sizes.result
+    → c.choose.result ≡ picked (listed rules (net_in c.args.net.now c.args.totals.now)) c.args.d
+picks c filled = c.choose.ensures c.args.totals.now filled
 
-pub returns-then-not-found : goal.returns-then-not-found
-returns-then-not-found c = record {
-  outcome = sym (draw_unformed rules (net_in c.args.net.now c.args.totals.now) c.args.d (sym c.survey-found.ensures.form ∙ not-true _ c.if-not-found.true));
-  beside = refl;
-}
+pub returns-in_err-states-clause-outcome : goal.returns-in_err-states-clause-outcome
+returns-in_err-states-clause-outcome c =
+    let net = net_in c.args.net.now c.args.totals.now in
+    let up = refused_up _ c.in_err-states.ensures.value c.from_residual.ensures.1 in
+    outcome_refused up.1 ∙ sym (draw_unformed rules net c.args.d (rw up.0 at c.survey.ensures))
 
 pub fill-sizes-requires : goal.fill-sizes-requires
 fill-sizes-requires c =
     let net = net_in c.args.net.now c.args.totals.now in
-    let formed = sym c.survey-found.ensures.form ∙ not-false _ c.if-not-found.false in
-    (subst (λ (t : Config). t.k ≤ 64) (sym c.config_in-t.ensures) (k_most net formed), length-replicate {A = ℕ} 256 0)
+    let found : Found net c.in_ok-states.states c.survey.new.kept = rw c.in_ok-states.ensures.ok_part at c.survey.ensures in
+    subst (λ (t : Config). t.k ≤ 64) (sym c.config_in-t.ensures) (k_most net found.form)
 
-pub choose-drawn-requires : goal.choose-drawn-requires
-choose-drawn-requires c =
-    let config = c.config_in-t.ensures in record {
-      config = config;
-      places = subst (λ (t : Config). (t.k ≤ 64) × (root_of t < 64)) (sym config) (k_most (net_at c) (well c), root_most (net_at c) (well c));
-      rows = c.fill-sizes.ensures.sized;
-    }
+pub choose-requires-clause-places : goal.choose-requires-clause-places
+choose-requires-clause-places c =
+    let here = (goal.at.choose-requires-clause-places c).After-fill-sizes in
+    let form = (found here).form in
+    subst (λ (t : Config). (t.k ≤ 64) × (root_of t < 64)) (sym c.config_in-t.ensures) (k_most (net_at here) form, root_most (net_at here) form)
 
-pub returns-in_default : goal.returns-in_default
-returns-in_default c =
-    let here = (goal.at.returns-in_default c).After-rows-2-1 in
-    let picks = c.choose-drawn.ensures c.args.totals.now (rows_told here) in
-    record { outcome = sym (drawn_nothing rules (net_at here) _ picks (well here) c.in_default.is); beside = refl }
+pub returns-in_err-step-clause-outcome : goal.returns-in_err-step-clause-outcome
+returns-in_err-step-clause-outcome c =
+    let at = goal.at.returns-in_err-step-clause-outcome c in
+    let here = at.After-fill-sizes in
+    let up = refused_up _ c.in_err-step.ensures.value c.from_residual-in_err-step.ensures.1 in
+    outcome_refused up.1 ∙ sym (drawn_nothing rules (net_at here) _ (picks at.After-choose (rows_told here)) (found here).form up.0)
 
-pub make-requires : goal.make-requires
-make-requires c =
-    let here = (goal.at.make-requires c).After-rows-2-1 in
-    let picks = c.choose-drawn.ensures c.args.totals.now (rows_told here) in
-    let ranged = (allowed_parts rules _ _ (drawn_allowed rules (net_at here) _ picks c.in-Step.is)).0 in
-    record { places = places (net_at here) (well here) _ ranged; config = c.config_in-t.ensures; joins = sums-joinable (net_at here) (well here) _ ranged }
+pub make-requires-clause-places : goal.make-requires-clause-places
+make-requires-clause-places c =
+    let at = goal.at.make-requires-clause-places c in
+    let here = at.After-fill-sizes in
+    let may = drawn_allowed rules (net_at here) _ (picks at.After-choose (rows_told here)) c.in_ok-step.ensures.ok_part in
+    places (net_at here) (found here).form _ (allowed_parts rules _ _ may).0
 
-pub returns : goal.returns
-returns c =
-    let here = (goal.at.returns c).After-rows-2-1 in
-    let picks = c.choose-drawn.ensures c.args.totals.now (rows_told here) in
-    let step = c.in-Step.step in record {
-      outcome = ap (step_made step) (c.make.ensures.made ∙ made-is (net_at here) step (drawn_allowed rules (net_at here) _ picks c.in-Step.is))
-          ∙ sym (drawn_accepted rules (net_at here) _ picks (well here) c.in-Step.is);
-      beside = ap (λ (l : List ℕ). set l 0 (get_or l 0 0 / 2 ^ 8)) c.make.ensures.spare;
-    }
+pub make-requires-clause-joins : goal.make-requires-clause-joins
+make-requires-clause-joins c =
+    let at = goal.at.make-requires-clause-joins c in
+    let here = at.After-fill-sizes in
+    let may = drawn_allowed rules (net_at here) _ (picks at.After-choose (rows_told here)) c.in_ok-step.ensures.ok_part in
+    sums-joinable (net_at here) (found here).form _ (allowed_parts rules _ _ may).0
+
+pub returns-clause-outcome : goal.returns-clause-outcome
+returns-clause-outcome c =
+    let at = goal.at.returns-clause-outcome c in
+    let here = at.After-fill-sizes in
+    let step = c.in_ok-step.step in
+    let drawn = c.in_ok-step.ensures.ok_part in
+    let picks = picks at.After-choose (rows_told here) in
+    ap (step_made step) (c.make.ensures.made ∙ made-is (net_at here) step (drawn_allowed rules (net_at here) _ picks drawn))
+    ∙ sym (drawn_accepted rules (net_at here) _ picks (found here).form drawn)

@@ -1,6 +1,6 @@
 -- A step in its parts, and the receivers of the allowed steps, as sets: what a sender may send, which changes with the sender alone, and who can
 -- take it by the states.
-use Rattle.std.specs.Prelude.{◌≡◌, Bool, true, not, cond, ◌&&◌, ◌||◌, List, ℕ, ◌+◌, ◌^◌, ◌≤◌, ◌<◌, length, get_or, set, eqb}
+use Rattle.std.specs.Prelude.{◌≡◌, Bool, true, false, not, cond, ◌&&◌, ◌||◌, List, ℕ, ◌+◌, ◌^◌, ◌≤◌, ◌<◌, length, get_or, set, eqb, Option, Some, None}
 use Rattle.std.specs.Int.Bits.{bit_and}
 use Rattle.bitset.specs.Set.{member, without, bit_if, put}
 use Rattle.bitset.specs.Internal.Selected.{set_of}
@@ -65,9 +65,19 @@ abbrev pub may_tell_of : Config → ℕ → ℕ → Bool → Station → Station
 may_tell_of t j i reported s r =
     reported && cond (eqb j (root_of t)) reported (eqb s.state told) && eqb r.state finished && not (eqb i (root_of t)) && eqb r.parent j
 
--- station p, if it is below k, may tell i, and no other
-pub record Teller (net : Net) (i p : ℕ) : Type 0 where
+-- no station may tell i
+pub record Untold (net : Net) (i : ℕ) : Type 0 where
+  pub nobody : (s : ℕ) → s < net.config.k → may_tell net s i ≡ false
+
+-- station p may tell i, and no other
+pub record ToldBy (net : Net) (i p : ℕ) : Type 0 where
+  pub low : p < net.config.k
   pub only : (s : ℕ) → s < net.config.k → may_tell net s i ≡ eqb s p
+
+-- the station that may tell i, if one may
+abbrev pub Teller : Net → ℕ → Option ℕ → Type 0
+Teller net i None = Untold net i
+Teller net i (Some p) = ToldBy net i p
 
 -- the rows of the tells to receivers below n, beside those of the other kinds
 pub record AreTells (net : Net) (n : ℕ) (tells : List ℕ) : Type 0 where
@@ -119,11 +129,16 @@ pub record AreSends (net : Net) (n : ℕ) (kept : List ℕ) : Type 0 where
   pub sized : length kept ≡ 192
   pub word : (j : ℕ) → j < n → kept_at kept j ≡ sent_in net j
 
--- what a pass over all stations finds: whether the net is in form, and where it is, who is in which state and what each may send
-pub record Surveyed (net : Net) (formed : Bool) (states : States) (kept : List ℕ) : Type 0 where
-  pub form : formed ≡ well_formed net
-  pub states_are : formed ≡ true → states ≡ states_of net
-  pub sends_are : formed ≡ true → AreSends net net.config.k kept
+-- what a pass over all stations finds of a net in form: who is in which state, and what each may send
+pub record Found (net : Net) (states : States) (kept : List ℕ) : Type 0 where
+  pub form : well_formed net ≡ true
+  pub states_are : states ≡ states_of net
+  pub sends_are : AreSends net net.config.k kept
+
+-- and whether the net is in form
+abbrev pub Surveyed : Net → Option States → List ℕ → Type 0
+Surveyed net None kept = well_formed net ≡ false
+Surveyed net (Some states) kept = Found net states kept
 
 -- the receivers of a step of a kind: those to whom it may be sent and whose state lets them take it
 unfoldable pub takers_in : ℕ → Sends → States → ℕ

@@ -57,7 +57,7 @@ returns-then-not-is_valid c =
 
 pub loop-i-init : goal.loop-i-init
 unfolding all_below
-loop-i-init c = (omega arith, refl)
+loop-i-init c = refl
 
 pub read-s-requires : goal.read-s-requires
 read-s-requires c = low c
@@ -75,12 +75,12 @@ loop-i-preserved c =
     let at = goal.at.loop-i-preserved c in
     let l = c.loop-i in
     let formed = sym (placed_told at.Joined-carrying-eq-CARRYING (low at.In-loop-i)) ∙ c.if-not-placed.false in
-    (omega (arith, c.loop-i-test.true), rw (all_below_more _ l.i, l.invariant.1, formed))
+    rw (all_below_more _ l.i, l.invariant, formed)
 
 pub returns : goal.returns
 returns c =
     let net = net_in c.args.net.now c.args.totals.now in
     let at = goal.at.returns c in
     let l = c.loop-i in
-    let all : l.i ≡ net.config.k = omega (arith, l.invariant.0, c.loop-i-test.false, same-k at.Else-not-is_valid) in
-    sym (all_placed net (flag_told at.Else-carrying-gt-CARRYING) (opened at.Else-not-is_valid) (rw all at l.invariant.1))
+    let all : l.i ≡ net.config.k = omega (arith, same-k at.Else-not-is_valid) in
+    sym (all_placed net (flag_told at.Else-carrying-gt-CARRYING) (opened at.Else-not-is_valid) (rw all at l.invariant))

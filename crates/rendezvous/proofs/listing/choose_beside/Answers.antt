@@ -1,7 +1,6 @@
 -- `rendezvous::listing::choose_beside` meets its contract: the rows list what is allowed, with the tells beside them. Assumes nothing.
-use mathlib.Core.Path.{◌≡◌, sym, ap, ◌∙◌, subst}
+use mathlib.Core.Path.{◌≡◌, ap, ◌∙◌, subst}
 use mathlib.Core.Bool.{Bool, true, cond}
-use mathlib.Core.List.{[]}
 use borrow.Author.Tests.{eq-eqb}
 use Rattle.aggregate.specs.declared.Config.{Config}
 use Rattle.schedule.specs.Rows.{picked_beside}
@@ -13,9 +12,6 @@ use Rattle.rendezvous.specs.Rules.{rules}
 use Rattle.rendezvous.specs.Internal.Receivers.{AreTells}
 use Rattle.rendezvous.proofs.Tells.{tells-allowed}
 use Rattle.rendezvous.proofs.listing.choose_beside.Goals as goal
-
-pub slice_bounds-pick_beside-end-2 : goal.slice_bounds-pick_beside-end-2
-slice_bounds-pick_beside-end-2 c = sym (c.fill_tells.ensures []).sized
 
 pub returns : goal.returns
 returns c kept F =

@@ -59,7 +59,7 @@ loop-x-init c =
     (omega arith, omega arith) in
     let stand = rows_stand step (omega (arith, p.0, p.1.0)) (omega (arith, p.0, p.1.1)) c.requires.states was is c.requires.rows in
     let one = held_anew p.0 stand step.sender p.1.0 c.refill-one.ensures in
-    (omega arith, passed_none _ step set (held_anew p.0 one step.receiver p.1.1 c.refill-all.ensures))
+    passed_none _ step set (held_anew p.0 one step.receiver p.1.1 c.refill-all.ensures)
 
 pub overflow_cast-at : goal.overflow_cast-at
 overflow_cast-at c = omega (arith, low (goal.at.overflow_cast-at c).In-loop-x)
@@ -82,22 +82,17 @@ bounds-kept-at-in-loop-x c = omega (arith, low (goal.at.bounds-kept-at-in-loop-x
 pub refill-all-requires-then-met-ne0 : goal.refill-all-requires-then-met-ne0
 refill-all-requires-then-met-ne0 c = low (goal.at.refill-all-requires-then-met-ne0 c).In-loop-x
 
-pub overflow_add-x : goal.overflow_add-x
-overflow_add-x c = omega (arith, low (goal.at.overflow_add-x c).In-loop-x)
-
 pub loop-x-preserved : goal.loop-x-preserved
 loop-x-preserved c =
-    let l = c.loop-x in (
-      omega (arith, c.loop-x-test.true),
-      elim c.if-met-ne0.branch [
-        | then-met-ne0 w ↦
-            rw (w.rows-is, w.all-is)
-            (passed_anew _ c.requires.places.0 (omega (arith, c.loop-x-test.true)) l.invariant.1 w.refill-all-then-met-ne0.ensures)
-        | else-met-ne0 w ↦ rw (w.rows-is, w.all-is) (passed_missing _ (rw c.union.ensures at w.if-met-ne0.false) l.invariant.1)
-      ],
-    )
+    let l = c.loop-x in
+    elim c.if-met-ne0.branch [
+      | then-met-ne0 w ↦
+          rw (w.rows-is, w.all-is)
+          (passed_anew _ c.requires.places.0 (omega (arith, c.loop-x-test.true)) l.invariant w.refill-all-then-met-ne0.ensures)
+      | else-met-ne0 w ↦ rw (w.rows-is, w.all-is) (passed_missing _ (rw c.union.ensures at w.if-met-ne0.false) l.invariant)
+    ]
 
 pub returns : goal.returns
 returns c =
     let l = c.loop-x in
-    hold_all (λ s m. inl (omega (arith, m, c.loop-x-test.false))) l.invariant.1
+    hold_all (λ s m. inl (omega (arith, m, c.loop-x-test.false))) l.invariant

@@ -1,12 +1,8 @@
 -- `rendezvous::listing::follow` meets its contract. Invariant: the rows are right of the senders below x and of those that may send to neither
 -- station of the step. Assumes nothing.
-use Prim.Native.Nat.{◌-◌, ◌≤◌}
 use Rattle.rendezvous.specs.Internal.Receivers.{kept_at, HoldSome}
 use Rattle.rendezvous.proofs.Following.{Passed}
 use Rattle.rendezvous.proofs.listing.follow.Given as goal
 
 abbrev pub invariant-loop-x : goal.invariant-loop-x
-invariant-loop-x l = (l.x ≤ l.k) × HoldSome (Passed l.both (kept_at l.kept) l.x) l.k l.states (kept_at l.kept) l.rows l.all
-
-abbrev pub decreases-loop-x : goal.decreases-loop-x
-decreases-loop-x l = l.k - l.x
+invariant-loop-x l = HoldSome (Passed l.both (kept_at l.kept) l.x) l.k l.states (kept_at l.kept) l.rows l.all

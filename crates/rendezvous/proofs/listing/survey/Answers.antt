@@ -1,15 +1,13 @@
 -- `rendezvous::listing::survey` meets its contract. Invariant: the stations below j are in form, both sets are of them, and what they may send is
 -- kept; one that is not in form ends it. Assumes nothing.
 use mathlib.Core.Path.{◌≡◌, refl, sym, ◌∙◌, ap, ap₂, subst}
-use mathlib.Core.Bool.{Bool, true, false}
-use mathlib.Core.List.{List}
+use mathlib.Core.Bool.{true}
 use Prim.Native.Nat.{ℕ, ◌+◌, ◌≤◌, ◌<◌, ◌^◌}
 use native.Mathlib.Omega.{arith}
 use lib.Dec.{eqb}
 use borrow.Author.Tests.{eq-eqb, ne_eqb}
 use Rattle.finite.specs.Below.{all_below}
 use Rattle.finite.proofs.Below.{all_below_more}
-use Rattle.finite.proofs.Cases.{clash}
 use Rattle.bitset.specs.Set.{bit_if}
 use Rattle.bitset.specs.Internal.Selected.{set_of}
 use Rattle.bitset.proofs.Selected.{set_next}
@@ -19,19 +17,14 @@ use Rattle.aggregate.proofs.Laws.{valid-k}
 use Rattle.station.specs.declared.Station.{Station}
 use Rattle.station.specs.Events as events
 use Rattle.stations.specs.Kept.{kept_read}
-use Rattle.rendezvous.specs.declared.listing.States.{States}
-use Rattle.rendezvous.specs.Net.{Net, net_in, well_formed}
-use Rattle.rendezvous.specs.Internal.Receivers.{in_state, place_formed, sends_of, AreSends, Surveyed}
+use Rattle.rendezvous.specs.Net.{Net, net_in}
+use Rattle.rendezvous.specs.Internal.Receivers.{in_state, place_formed, sends_of, AreSends}
 use Rattle.rendezvous.proofs.Kept.{kept_none, kept_next}
 use Rattle.rendezvous.proofs.FormAfter.{barred_config, barred_place, all_placed, place_read, placed, unformed_flag}
 use Rattle.rendezvous.proofs.listing.survey.Invariants.{below}
 use Rattle.rendezvous.proofs.listing.survey.Goals as goal
 use Rattle.rendezvous.proofs.listing.survey.Goals.{Joined-carrying-eq-CARRYING, then-carrying-eq-CARRYING, else-carrying-eq-CARRYING}
 use Rattle.rendezvous.proofs.listing.survey.Goals.{Else-carrying-gt-CARRYING, Else-not-is_valid, In-loop-j, After-bit_if-asleep, After-bit_if-active}
-
--- a net out of form
-unformed : (net : Net) (b : Bool) (states : States) (kept : List ℕ) → b ≡ false → well_formed net ≡ false → Surveyed net b states kept
-unformed net b states kept e f = record { form = e ∙ sym f; states_are = λ t. clash t e; sends_are = λ t. clash t e }
 
 -- past the test of what the net was opened with
 abbrev net_of : Else-not-is_valid → Net
@@ -72,26 +65,27 @@ placed_told c few =
 asleep-next : (c : After-bit_if-asleep) → (c.loop-j.asleep + c.bit_if-asleep.result ≡ below (net_in c.args.net.now c.args.totals.now) events.asleep (c.loop-j.j + 1)) × (c.loop-j.asleep + c.bit_if-asleep.result < 2 ^ 64)
 asleep-next c =
     let l = c.loop-j in
-    set_next _ l.j (omega (arith, (valid-k _ (sym c.is_valid.ensures ∙ c.if-not-is_valid.false)).1, c.loop-j-test.true)) l.invariant.2 (c.bit_if-asleep.ensures ∙ ap (λ (s : Station). bit_if (eqb s.state events.asleep) l.j) c.read-s.ensures)
+    set_next _ l.j (omega (arith, (valid-k _ (sym c.is_valid.ensures ∙ c.if-not-is_valid.false)).1, c.loop-j-test.true)) l.invariant.1 (c.bit_if-asleep.ensures ∙ ap (λ (s : Station). bit_if (eqb s.state events.asleep) l.j) c.read-s.ensures)
 
 active-next : (c : After-bit_if-active) → (c.loop-j.active + c.bit_if-active.result ≡ below (net_in c.args.net.now c.args.totals.now) events.active (c.loop-j.j + 1)) × (c.loop-j.active + c.bit_if-active.result < 2 ^ 64)
 active-next c =
     let l = c.loop-j in
-    set_next _ l.j (omega (arith, (valid-k _ (sym c.is_valid.ensures ∙ c.if-not-is_valid.false)).1, c.loop-j-test.true)) l.invariant.3 (c.bit_if-active.ensures ∙ ap (λ (s : Station). bit_if (eqb s.state events.active) l.j) c.read-s.ensures)
+    set_next _ l.j (omega (arith, (valid-k _ (sym c.is_valid.ensures ∙ c.if-not-is_valid.false)).1, c.loop-j-test.true)) l.invariant.2 (c.bit_if-active.ensures ∙ ap (λ (s : Station). bit_if (eqb s.state events.active) l.j) c.read-s.ensures)
 
 pub returns-then-carrying-gt-CARRYING : goal.returns-then-carrying-gt-CARRYING
 returns-then-carrying-gt-CARRYING c =
-    let above : 1 < (net_in c.args.net.now c.args.totals.now).carrying = omega (arith, c.if-carrying-gt-CARRYING.true, c.carrying_in-carrying.ensures) in
-    unformed _ _ _ _ c.unformed.ensures (unformed_flag _ above)
+    let net = net_in c.args.net.now c.args.totals.now in
+    unformed_flag net (omega (arith, c.if-carrying-gt-CARRYING.true, c.carrying_in-carrying.ensures))
 
 pub returns-then-not-is_valid : goal.returns-then-not-is_valid
 returns-then-not-is_valid c =
+    let net = net_in c.args.net.now c.args.totals.now in
     let barred = ap valid (sym c.config_in-t.ensures) ∙ sym c.is_valid.ensures ∙ c.if-not-is_valid.true in
-    unformed _ _ _ _ c.unformed-then-not-is_valid.ensures (barred_config _ (flag_told (goal.at.returns-then-not-is_valid c).Else-carrying-gt-CARRYING) barred)
+    barred_config net (flag_told (goal.at.returns-then-not-is_valid c).Else-carrying-gt-CARRYING) barred
 
 pub loop-j-init : goal.loop-j-init
 unfolding all_below set_of
-loop-j-init c = (omega arith, refl, refl, refl, kept_none _ c.requires)
+loop-j-init c = (refl, refl, refl, kept_none _ (omega arith))
 
 pub read-s-requires : goal.read-s-requires
 read-s-requires c = low c
@@ -103,7 +97,7 @@ returns-then-not-placed c =
     let l = c.loop-j in
     let broken = sym (placed_told at.Joined-carrying-eq-CARRYING (low at.In-loop-j)) ∙ c.if-not-placed.true in
     let inside : l.j < net.config.k = omega (arith, c.loop-j-test.true, same-k at.Else-not-is_valid) in
-    unformed _ _ _ _ c.unformed-then-not-placed.ensures (barred_place net (flag_told at.Else-carrying-gt-CARRYING) l.j inside broken)
+    barred_place net (flag_told at.Else-carrying-gt-CARRYING) l.j inside broken
 
 pub overflow_add-asleep : goal.overflow_add-asleep
 overflow_add-asleep c = omega (arith, (asleep-next c).1)
@@ -114,20 +108,16 @@ overflow_add-active c = omega (arith, (active-next c).1)
 pub keep-requires : goal.keep-requires
 keep-requires c = low (goal.at.keep-requires c).In-loop-j
 
-pub overflow_add-j : goal.overflow_add-j
-overflow_add-j c = omega (arith, low (goal.at.overflow_add-j c).In-loop-j)
-
 pub loop-j-preserved : goal.loop-j-preserved
 loop-j-preserved c =
     let net = net_in c.args.net.now c.args.totals.now in
     let at = goal.at.loop-j-preserved c in
     let l = c.loop-j in
     let sends = c.find_sends-sends.ensures ∙ ap₂ (λ (t : Config) (s : Station). sends_of t l.j s) c.config_in-t.ensures c.read-s.ensures in (
-      omega arith,
-      rw (all_below_more _ l.j, l.invariant.1, sym (placed_told at.Joined-carrying-eq-CARRYING (low at.In-loop-j)) ∙ c.if-not-placed.false),
+      rw (all_below_more _ l.j, l.invariant.0, sym (placed_told at.Joined-carrying-eq-CARRYING (low at.In-loop-j)) ∙ c.if-not-placed.false),
       (asleep-next at.After-bit_if-asleep).0,
       (active-next at.After-bit_if-active).0,
-      subst (AreSends net (l.j + 1)) (sym c.keep.ensures) (kept_next net l.invariant.4 (low at.In-loop-j) sends),
+      subst (AreSends net (l.j + 1)) (sym c.keep.ensures) (kept_next net l.invariant.3 (low at.In-loop-j) sends),
     )
 
 pub returns : goal.returns
@@ -138,7 +128,7 @@ returns c =
     let all : c.loop-j.j ≡ (net_of past).config.k = omega (arith, same-k past) in
     let inv = rw all at c.loop-j.invariant in
     record {
-      form = sym (all_placed (net_of past) (flag_told at.Else-carrying-gt-CARRYING) (opened past) inv.1);
-      states_are = λ e. ap₂ (λ (asleep active : ℕ). record { asleep = asleep; active = active }) inv.2 inv.3;
-      sends_are = λ e. inv.4;
+      form = all_placed (net_of past) (flag_told at.Else-carrying-gt-CARRYING) (opened past) inv.0;
+      states_are = ap₂ (λ (asleep active : ℕ). record { asleep = asleep; active = active }) inv.1 inv.2;
+      sends_are = inv.3;
     }

@@ -2,7 +2,7 @@
 -- kept; one that is not in form ends it. Assumes nothing.
 use mathlib.Core.Path.{◌≡◌}
 use mathlib.Core.Bool.{true}
-use Prim.Native.Nat.{ℕ, ◌-◌, ◌≤◌}
+use Prim.Native.Nat.{ℕ}
 use lib.Dec.{eqb}
 use Rattle.finite.specs.Below.{all_below}
 use Rattle.bitset.specs.Internal.Selected.{set_of}
@@ -17,11 +17,7 @@ abbrev pub below : Net → ℕ → ℕ → ℕ
 below net state i = set_of i (λ x. eqb (station net x).state state)
 
 abbrev pub invariant-loop-j : goal.invariant-loop-j
-invariant-loop-j l = (l.j ≤ l.k)
-    × (all_below l.j (placed (net_in l.net l.totals)) ≡ true)
+invariant-loop-j l = (all_below l.j (placed (net_in l.net l.totals)) ≡ true)
     × (l.asleep ≡ below (net_in l.net l.totals) events.asleep l.j)
     × (l.active ≡ below (net_in l.net l.totals) events.active l.j)
     × AreSends (net_in l.net l.totals) l.j l.kept
-
-abbrev pub decreases-loop-j : goal.decreases-loop-j
-decreases-loop-j l = l.k - l.j

@@ -11,10 +11,10 @@ use Rattle.aggregate.specs.Aggregate.{root_of}
 use Rattle.station.specs.declared.Station.{Station}
 use Rattle.rendezvous.specs.Net.{Net, net_in, station}
 use Rattle.rendezvous.specs.Telling.{is_reported}
-use Rattle.rendezvous.specs.Internal.Receivers.{AreTells}
+use Rattle.rendezvous.specs.Internal.Receivers.{ToldBy, AreTells}
 use Rattle.rendezvous.proofs.Tells.{tells_none, tells_early, tells_skip, tells_fit, tells-next, tells_any}
 use Rattle.rendezvous.proofs.telling.fill_tells.Goals as goal
-use Rattle.rendezvous.proofs.telling.fill_tells.Goals.{Start, Else-desk-eq-FINISHED, In-loop-i, then-p-k, else-p-k}
+use Rattle.rendezvous.proofs.telling.fill_tells.Goals.{Start, In-loop-i, In-Some, in-Some, in_default}
 
 abbrev net : Start → Net
 net c = net_in c.args.net.now []
@@ -28,38 +28,42 @@ same-k c = ap (λ (t : Config). t.k) c.requires.config
 low : (c : In-loop-i) → c.loop-i.i < 64
 low c = omega (arith, c.loop-i-test.true, c.requires.places.0)
 
+-- who tells the station of a turn
+teller : (c : In-Some) → ToldBy (net_in c.args.net.now []) c.loop-i.i c.in-Some.p
+teller c = c.in-Some.ensures []
+
 pub loop-i-init : goal.loop-i-init
 loop-i-init c =
     let start = (goal.at.loop-i-init c).Start in
-    (omega arith, subst (AreTells (net start) 0) (sym c.requires.empty) (tells_none (net start) (few start)))
+    subst (AreTells (net start) 0) (sym c.requires.empty) (tells_none (net start) (few start))
+
+pub bounds-tells-at : goal.bounds-tells-at
+bounds-tells-at c = let at = goal.at.bounds-tells-at c in omega (arith, (teller at.In-Some).low, few at.Start)
+
+pub bounds-tells-at-in-Some : goal.bounds-tells-at-in-Some
+bounds-tells-at-in-Some c = let at = goal.at.bounds-tells-at-in-Some c in omega (arith, (teller at.In-Some).low, few at.Start)
 
 pub overflow_add-tells : goal.overflow_add-tells
 overflow_add-tells c =
     let at = goal.at.overflow_add-tells c in
     let start = at.Start in
-    let in_net : c.find_teller-p.result < (net start).config.k = omega (arith, c.if-p-k.true, same-k start) in
-    omega (arith, tells_fit (net start) (few start) c.loop-i.invariant.1 (low at.In-loop-i) (c.find_teller-p.ensures []) in_net c.bit_if.ensures)
+    omega (arith, tells_fit (net start) (few start) c.loop-i.invariant (low at.In-loop-i) (teller at.In-Some) c.bit_if.ensures)
 
 pub loop-i-preserved : goal.loop-i-preserved
 loop-i-preserved c =
     let at = goal.at.loop-i-preserved c in
     let start = at.Start in
     let l = c.loop-i in
-    let teller = c.find_teller-p.ensures [] in (
-      omega (arith, c.loop-i-test.true),
-      elim c.if-p-k.branch [
-        | then-p-k w ↦
-            let in_net : c.find_teller-p.result < (net start).config.k = omega (arith, w.if-p-k.true, same-k start) in
-            rw w.tells-is (tells-next (net start) (few start) l.invariant.1 (low at.In-loop-i) teller in_net w.bit_if.ensures)
-        | else-p-k w ↦ rw w.tells-is (tells_skip (net start) (few start) l.invariant.1 (low at.In-loop-i) teller (omega (arith, w.if-p-k.false, same-k start)))
-      ],
-    )
+    elim c.match-find_teller.branch [
+      | in-Some w ↦ rw w.tells-is (tells-next (net start) (few start) l.invariant (low at.In-loop-i) (w.in-Some.ensures []) w.bit_if.ensures)
+      | in_default w ↦ rw w.tells-is (tells_skip (net start) (few start) l.invariant (low at.In-loop-i) (w.in_default.ensures []))
+    ]
 
 pub returns-after-loop-i : goal.returns-after-loop-i
 returns-after-loop-i c kept =
     let l = c.loop-i in
-    let all : l.i ≡ c.args.t.k = omega (arith, l.invariant.0, c.loop-i-test.false) in
-    tells_any c.args.net.now [] kept c.args.t.k l.tells (rw all at l.invariant.1)
+    let all : l.i ≡ c.args.t.k = omega arith in
+    tells_any c.args.net.now [] kept c.args.t.k l.tells (rw all at l.invariant)
 
 pub returns-else-desk-eq-FINISHED : goal.returns-else-desk-eq-FINISHED
 returns-else-desk-eq-FINISHED c kept =
