@@ -1,4 +1,5 @@
 -- The loop of a run, as the code has it: the net reached, who takes a message, and the rows with their sizes. Assumes nothing.
+use Rattle.std.specs.Prelude.{Option, Some, None}
 use mathlib.Core.Path.{◌≡◌, sym, ◌∙◌, ap, ap₂, subst}
 use mathlib.Core.Bool.{Bool, true, false}
 use mathlib.Core.List.{List}
@@ -17,8 +18,6 @@ use Rattle.aggregate.specs.Aggregate.{root_of, bounded}
 use Rattle.station.specs.declared.Station.{Station}
 use Rattle.stations.specs.Stations.{station_at, no_station}
 use Rattle.schedule.specs.declared.Step.{Step}
-use Rattle.schedule.specs.declared.rows.Drawn.{Drawn}
-use Rattle.schedule.specs.declared.rows.Drawn.TheVariants as drawn
 use Rattle.schedule.specs.declared.rows.Sizes.{Sizes}
 use Rattle.schedule.specs.Rules.{allowed}
 use Rattle.schedule.specs.Rows.{picked_by_size, total_of}
@@ -94,14 +93,14 @@ module _ {first : Net} {draws : List ℕ} {here : Net} {takers : Takers} {rows :
     pub root-low : root_of t < 64
     root-low = rw told (root-placed here formed)
 
-    module _ (h : made < length draws) {p : Drawn} (e : p ≡ picked_by_size rows z t.k (get_or draws made 0)) where
+    module _ (h : made < length draws) {p : Option Step} (e : p ≡ picked_by_size rows z t.k (get_or draws made 0)) where
       picks : p ≡ picked (listed rules here) (get_or draws made 0)
       picks = of_list rules here fills (omega arith) _ (e ∙ ap (λ (u : Config). picked_by_size rows z u.k (get_or draws made 0)) told)
 
-      pub ends_at-rest : p ≡ drawn.Nothing → run_on rules first draws ≡ record { number = 0; steps = made; rest = true; net = here }
+      pub ends_at-rest : p ≡ None → run_on rules first draws ≡ record { number = 0; steps = made; rest = true; net = here }
       ends_at-rest q = at-rest_with rules G.running h picks q
 
-      module _ {s : Step} (q : p ≡ drawn.Step s) where
+      module _ {s : Step} (q : p ≡ Some s) where
         may : allowed rules here s ≡ true
         may = drawn_allowed rules here _ picks q
 

@@ -2,7 +2,7 @@
 // mailboxes are lent, and no call copies them.
 #![tactic(auto)]
 
-ghost use Rattle.std.specs.Prelude.{◌≡◌, true, false, ◌||◌, ◌<◌, ◌≤◌, length, eqb};
+ghost use Rattle.std.specs.Prelude.{◌≡◌, true, false, ◌||◌, ◌<◌, ◌≤◌, eqb};
 ghost use Rattle.finite.specs.Below.{all_below};
 ghost use Rattle.aggregate.specs.Aggregate.{root_of, bounded};
 ghost use Rattle.linemap.specs.Openings.{opening_of};
@@ -18,8 +18,7 @@ ghost use Rattle.mailbox.specs.Internal.Receivers.{Made};
 use aggregate::Config;
 use linemap::{FreshFault, Map};
 use refusal::Refusal;
-use schedule::rows::Drawn;
-use schedule::{Answer, Ran, Step};
+use schedule::{Ran, Step};
 use station::Station;
 
 mod delivery;
@@ -96,10 +95,8 @@ fn are_bounded(t: Config, boxes: &[u64; 36992]) -> bool
 {
     let k = t.k;
     let mut ok = true;
-    let mut s: u8 = 0;
-    while s < k {
+    for s in 0..k {
         ok = ok & is_row_bounded(t, boxes, s);
-        s += 1;
     }
     ok
 }
@@ -132,56 +129,46 @@ fn make(line: &mut [u64; 705], boxes: &mut [u64; 36992], t: Config, step: Step) 
 }
 
 // One step: refused by 11, 12 or 13, or made.
-pub fn step(line: &mut [u64; 705], boxes: &mut [u64; 36992], step: Step) -> Answer
+pub fn step(line: &mut [u64; 705], boxes: &mut [u64; 36992], step: Step) -> Result<Step, Refusal>
     ensures outcome { step_outcome_of result (net_of line.new boxes.new) ≡ step_on rules (net_of line.old boxes.old) step }
     ensures spare { spare_in line.new ≡ spare_in line.old }
 {
     if !is_well_formed(line, boxes) {
-        return Answer::Refused(Refusal::OutOfForm);
+        return Err(Refusal::OutOfForm);
     }
     let t = stations::config_in(line);
     if !delivery::is_in_range(t, step) {
-        return Answer::Refused(Refusal::OutOfRange);
+        return Err(Refusal::OutOfRange);
     }
     let receiver = stations::load(line, step.receiver);
     let content = mail::box_at(boxes, step.sender, step.receiver);
     if !delivery::may_step(step, receiver, content) {
-        return Answer::Refused(Refusal::NotAllowed);
+        return Err(Refusal::NotAllowed);
     }
     let next = make(line, boxes, t, step);
-    Answer::Made(step)
+    Ok(step)
 }
 
 // The step that a draw picks, made: refused by 11, or by 14 where no step is allowed.
-pub fn draw(line: &mut [u64; 705], boxes: &mut [u64; 36992], d: u16) -> Answer
+pub fn draw(line: &mut [u64; 705], boxes: &mut [u64; 36992], d: u16) -> Result<Step, Refusal>
     ensures outcome { step_outcome_of result (net_of line.new boxes.new) ≡ draw_on rules (net_of line.old boxes.old) d }
     ensures spare { spare_in line.new ≡ spare_in line.old }
 {
     if !is_well_formed(line, boxes) {
-        return Answer::Refused(Refusal::OutOfForm);
+        return Err(Refusal::OutOfForm);
     }
     let t = stations::config_in(line);
     let takers = listing::find_takers(line, t.k);
     let reports = listing::root_reports(line, t);
     let mut rows = [0u64; 256];
     let sizes = listing::fill(&mut rows, t, takers, reports, boxes);
-    let drawn = schedule::rows::pick(&rows, sizes, t.k, d);
-    let Drawn::Step(step) = drawn else {
-        return Answer::Refused(Refusal::NothingAllowed);
-    };
+    let step = schedule::rows::pick(&rows, sizes, t.k, d).ok_or(Refusal::NothingAllowed)?;
     let next = make(line, boxes, t, step);
-    Answer::Made(step)
+    Ok(step)
 }
 
-// How many words are lent. It is called for what it tells the prover: a reference to an array does not.
-fn count_words(boxes: &[u64]) -> usize
-    ensures { result ≡ length boxes.now }
-{
-    boxes.len()
-}
-
-// The steps that the draws pick, one after the other, until they are used up, one is refused, or the form is left. The counter is the place
-// among the draws and the number of steps made. The form is tested once: after that, only what the receiver has gathered can break it. Who
+// The steps that the draws pick, one after the other, until they are used up, one is refused, or the form is left. A draw's place among
+// them is the number of steps made before it. The form is tested once: after that, only what the receiver has gathered can break it. Who
 // takes a message is kept, and the rows follow each step.
 pub fn run(line: &mut [u64; 705], boxes: &mut [u64; 36992], draws: &[u16]) -> Ran
     ensures outcome { run_outcome_of result (net_of line.new boxes.new) ≡ run_on rules (net_of line.old boxes.old) draws.now }
@@ -190,24 +177,21 @@ pub fn run(line: &mut [u64; 705], boxes: &mut [u64; 36992], draws: &[u16]) -> Ra
     if !is_well_formed(line, boxes) {
         return schedule::stop_outside(0);
     }
-    let words = count_words(boxes);
     let first = stations::config_in(line);
     let mut takers = listing::find_takers(line, first.k);
     let mut reports = listing::root_reports(line, first);
     let mut rows = [0u64; 256];
     let mut sizes = listing::fill(&mut rows, first, takers, reports, boxes);
-    let mut made: usize = 0;
-    while made < draws.len() {
+    for (made, d) in draws.iter().enumerate() {
         let t = stations::config_in(line);
-        let drawn = schedule::rows::pick(&rows, sizes, t.k, draws[made]);
-        let Drawn::Step(step) = drawn else {
+        let drawn = schedule::rows::pick(&rows, sizes, t.k, *d);
+        let Some(step) = drawn else {
             return schedule::stop(made, true);
         };
         let next = make(line, boxes, t, step);
-        made += 1;
         let held = next.held;
         if !aggregate::is_bounded(t, held) {
-            return schedule::stop_outside(made);
+            return schedule::stop_outside(made + 1);
         }
         reports = listing::root_reports(line, t);
         let old = takers;
@@ -215,5 +199,5 @@ pub fn run(line: &mut [u64; 705], boxes: &mut [u64; 36992], draws: &[u16]) -> Ra
         sizes = listing::follow(&mut rows, sizes, t, old, takers, reports, boxes, step);
     }
     let c = schedule::rows::total(sizes);
-    schedule::stop(made, c == 0)
+    schedule::stop(draws.len(), c == 0)
 }

@@ -1,5 +1,5 @@
 // The rows of the allowed steps: for each sender and kind, the receivers, as a set.
-ghost use Rattle.std.specs.Prelude.{◌≡◌, ◌≤◌, ◌<◌, length};
+ghost use Rattle.std.specs.Prelude.{◌≡◌, ◌≤◌, ◌<◌};
 ghost use Rattle.aggregate.specs.Aggregate.{root_of};
 ghost use Rattle.stations.specs.Words.{stations_in};
 ghost use Rattle.schedule.specs.Internal.Rows.{Others};
@@ -37,12 +37,10 @@ pub(crate) fn find_takers(line: &[u64; 705], k: u8) -> Takers
 {
     let mut starts: u64 = 0;
     let mut answers: u64 = 0;
-    let mut i: u8 = 0;
-    while i < k {
+    for i in 0..k {
         let s = stations::load(line, i);
         starts += bit_if(takes_start(s), i);
         answers += bit_if(takes_answer(s), i);
-        i += 1;
     }
     Takers {
         starts: starts,
@@ -76,14 +74,13 @@ pub(crate) fn fill(
     reports: bool,
     boxes: &[u64; 36992],
 ) -> Sizes
-    requires { (t.k ≤ 64) × (length rows.old ≡ 256) }
+    requires { t.k ≤ 64 }
     ensures { Rules.HoldReceivers Rules.AnySender t.k (root_of t) takers reports boxes.now rows.new result }
 {
     let k = t.k;
     let root = aggregate::root(t);
     let mut sizes = schedule::rows::no_sizes();
-    let mut sender: u8 = 0;
-    while sender < k {
+    for sender in 0..k {
         let s = sender as usize;
         let starts = boxes[s];
         let answers = boxes[64 + s];
@@ -95,7 +92,6 @@ pub(crate) fn fill(
         rows[at + 2] = 0;
         rows[at + 3] = 0;
         sizes = schedule::rows::add(sizes, a, b, 0, 0);
-        sender += 1;
     }
     sizes
 }

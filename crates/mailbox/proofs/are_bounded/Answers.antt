@@ -9,15 +9,15 @@ use Rattle.mailbox.proofs.are_bounded.Goals as goal
 
 pub loop-s-init : goal.loop-s-init
 unfolding all_below
-loop-s-init c = (omega arith, refl)
+loop-s-init c = refl
 
 pub loop-s-preserved : goal.loop-s-preserved
 loop-s-preserved c =
     let l = c.loop-s in
-    (omega arith, ap₂ ◌&&◌ l.invariant.1 c.is_row_bounded-ok.ensures ∙ sym (all_below_more _ l.s))
+    ap₂ ◌&&◌ l.invariant c.is_row_bounded-ok.ensures ∙ sym (all_below_more _ l.s)
 
 pub returns : goal.returns
 unfolding are_bounded
 returns c =
     let all : c.loop-s.s ≡ c.args.t.k = omega arith in
-    rw all at c.loop-s.invariant.1
+    rw all at c.loop-s.invariant

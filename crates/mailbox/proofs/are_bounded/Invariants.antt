@@ -1,15 +1,10 @@
 -- `mailbox::are_bounded` meets its contract. Invariant: ok is the test of the rows passed. Assumes nothing.
 use mathlib.Core.Path.{◌≡◌}
 use mathlib.Core.Bool.{◌||◌}
-use Prim.Native.Nat.{◌-◌, ◌≤◌}
 use lib.Dec.{eqb}
 use Rattle.finite.specs.Below.{all_below}
 use Rattle.mail.specs.Mail.{mailbox_bounded, box_at, brought_at}
 use Rattle.mailbox.proofs.are_bounded.Given as goal
 
 abbrev pub invariant-loop-s : goal.invariant-loop-s
-invariant-loop-s l = (l.s ≤ l.k)
-    × (l.ok ≡ all_below l.s (λ i. all_below l.k (λ j. eqb i j || mailbox_bounded l.t (box_at l.boxes i j) (brought_at l.t l.boxes i j))))
-
-abbrev pub decreases-loop-s : goal.decreases-loop-s
-decreases-loop-s l = l.k - l.s
+invariant-loop-s l = l.ok ≡ all_below l.s (λ i. all_below l.k (λ j. eqb i j || mailbox_bounded l.t (box_at l.boxes i j) (brought_at l.t l.boxes i j)))

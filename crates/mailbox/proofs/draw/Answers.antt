@@ -1,9 +1,8 @@
 -- `mailbox::draw` meets its contract: the rows are those of the net, so the pick is the draw's. Assumes nothing.
 use mathlib.Core.Path.{◌≡◌, refl, sym, ◌∙◌, ap, subst}
 use mathlib.Core.Bool.{true}
-use Prim.Native.Nat.{ℕ, ◌≤◌, ◌<◌}
+use Prim.Native.Nat.{◌≤◌, ◌<◌}
 use native.Mathlib.Omega.{arith}
-use lib.ListN.{length-replicate}
 use Rattle.aggregate.specs.declared.Config.{Config}
 use Rattle.aggregate.specs.Aggregate.{root_of}
 use Rattle.schedule.specs.Listing.{listed}
@@ -11,6 +10,7 @@ use Rattle.schedule.specs.Draws.{picked}
 use Rattle.schedule.specs.Rows.{picked_by_size}
 use Rattle.schedule.specs.Outcome.{step_made}
 use Rattle.schedule.specs.Internal.Rows.{Filled}
+use Rattle.schedule.proofs.Answers.{refused_up, outcome_refused}
 use Rattle.schedule.proofs.Outcomes.{draw_unformed}
 use Rattle.schedule.proofs.Drawing.{of_list, drawn_nothing, drawn_allowed, drawn_accepted}
 use Rattle.mailbox.specs.declared.listing.Takers.{Takers}
@@ -22,7 +22,7 @@ use Rattle.mailbox.proofs.RowSets.{filled}
 use Rattle.mailbox.proofs.FormAfter.{step_receives}
 use Rattle.mailbox.proofs.Going.{held-told, made-is}
 use Rattle.mailbox.proofs.draw.Goals as goal
-use Rattle.mailbox.proofs.draw.Goals.{Else-not-is_well_formed, After-pick-drawn}
+use Rattle.mailbox.proofs.draw.Goals.{Else-not-is_well_formed, After-pick}
 
 -- past the test of the form
 abbrev net_at : Else-not-is_well_formed → Net
@@ -32,11 +32,11 @@ formed : (c : Else-not-is_well_formed) → well_formed (net_at c) ≡ true
 formed c = sym c.is_well_formed.ensures ∙ c.if-not-is_well_formed.false
 
 -- where a pick was made
-abbrev net_in : After-pick-drawn → Net
+abbrev net_in : After-pick → Net
 net_in c = net_of c.args.line.now c.args.boxes.now
 
 -- the rows are those of the net
-fills : (c : After-pick-drawn) → Filled rules (net_in c) c.fill-sizes.new.rows c.fill-sizes.result
+fills : (c : After-pick) → Filled rules (net_in c) c.fill-sizes.new.rows c.fill-sizes.result
 fills c =
     let net = net_in c in
     let config = c.config_in-t.ensures in
@@ -49,10 +49,10 @@ fills c =
     (held-told AnySender c.config_in-t.result c.find_takers-takers.result c.root_reports-reports.result net.stations net.boxes
     config c.root_reports-reports.ensures c.fill-sizes.ensures))
 
-picks : (c : After-pick-drawn) → c.pick-drawn.result ≡ picked (listed rules (net_in c)) c.args.d
+picks : (c : After-pick) → c.pick.result ≡ picked (listed rules (net_in c)) c.args.d
 picks c =
     of_list rules (net_in c) (fills c) (omega arith) _
-    (c.pick-drawn.ensures
+    (c.pick.ensures
     ∙ ap (λ (t : Config). picked_by_size c.fill-sizes.new.rows c.fill-sizes.result t.k c.args.d)
     c.config_in-t.ensures)
 
@@ -74,20 +74,21 @@ root_reports-reports-requires c =
 pub fill-sizes-requires : goal.fill-sizes-requires
 fill-sizes-requires c =
     let here = (goal.at.fill-sizes-requires c).Else-not-is_well_formed in
-    (subst (λ (t : Config). t.k ≤ 64) (sym c.config_in-t.ensures) (k_most (net_at here) (formed here)), length-replicate {A = ℕ} 256 0)
+    subst (λ (t : Config). t.k ≤ 64) (sym c.config_in-t.ensures) (k_most (net_at here) (formed here))
 
-pub returns-in_default : goal.returns-in_default
-returns-in_default c =
-    let at = goal.at.returns-in_default c in
+pub returns-in_err-step : goal.returns-in_err-step
+returns-in_err-step c =
+    let at = goal.at.returns-in_err-step c in
     let here = at.Else-not-is_well_formed in
-    record { outcome = sym (drawn_nothing rules (net_at here) _ (picks at.After-pick-drawn) (formed here) c.in_default.is); spare = refl }
+    let up = refused_up _ c.in_err-step.ensures.value c.from_residual.ensures.1 in
+    record { outcome = outcome_refused up.1 ∙ sym (drawn_nothing rules (net_at here) _ (picks at.After-pick) (formed here) up.0); spare = refl }
 
 -- the step that was picked is allowed
 pub make-next-requires : goal.make-next-requires
 make-next-requires c =
     let at = goal.at.make-next-requires c in
     let here = at.Else-not-is_well_formed in
-    let may = drawn_allowed rules (net_at here) _ (picks at.After-pick-drawn) c.in-Step.is in
+    let may = drawn_allowed rules (net_at here) _ (picks at.After-pick) c.in_ok-step.ensures.ok_part in
     let asked = step_receives (net_at here) _ (formed here) may in
     record { config = c.config_in-t.ensures; places = asked.0; sums = asked.1 }
 
@@ -95,8 +96,8 @@ pub returns : goal.returns
 returns c =
     let at = goal.at.returns c in
     let here = at.Else-not-is_well_formed in
-    let s = c.in-Step.step in record {
+    let s = c.in_ok-step.step in record {
       outcome = ap (step_made s) (made-is (net_at here) s c.make-next.ensures.made)
-          ∙ sym (drawn_accepted rules (net_at here) _ (picks at.After-pick-drawn) (formed here) c.in-Step.is);
+          ∙ sym (drawn_accepted rules (net_at here) _ (picks at.After-pick) (formed here) c.in_ok-step.ensures.ok_part);
       spare = c.make-next.ensures.spare;
     }

@@ -4,7 +4,8 @@ use mathlib.Core.Path.{◌≡◌, refl, sym, ◌∙◌, ap, subst}
 use mathlib.Core.Bool.{true}
 use Prim.Native.Nat.{ℕ, ◌≤◌, ◌<◌}
 use native.Mathlib.Omega.{arith}
-use lib.ListN.{length-replicate}
+use lib.ListN.{length}
+use lib.Dec.{eqb}
 use Rattle.aggregate.specs.declared.Config.{Config}
 use Rattle.aggregate.specs.Aggregate.{root_of}
 use Rattle.schedule.proofs.Running.{outcome_of, run_starts, barred_with}
@@ -45,7 +46,7 @@ root_reports-reports-requires c =
 
 pub fill-sizes-requires : goal.fill-sizes-requires
 fill-sizes-requires c =
-    (few (goal.at.fill-sizes-requires c).Else-not-is_well_formed c.config_in-first.ensures, length-replicate {A = ℕ} 256 0)
+    few (goal.at.fill-sizes-requires c).Else-not-is_well_formed c.config_in-first.ensures
 
 pub loop-made-init : goal.loop-made-init
 loop-made-init c =
@@ -63,12 +64,6 @@ loop-made-init c =
       refl,
     )
 
-pub slice_bounds-pick-end : goal.slice_bounds-pick-end
-slice_bounds-pick-end c = sym c.loop-made.invariant.0.holds.sized
-
-pub offset_bounds-draws-made : goal.offset_bounds-draws-made
-offset_bounds-draws-made c = omega arith
-
 pub returns-in_default : goal.returns-in_default
 returns-in_default c =
     let l = c.loop-made in record {
@@ -79,17 +74,14 @@ returns-in_default c =
 
 pub make-next-requires : goal.make-next-requires
 make-next-requires c =
-    let asked = receives c.loop-made.invariant.0 c.config_in-t.ensures c.loop-made-test.true c.pick-drawn.ensures c.in-Step.is in
+    let asked = receives c.loop-made.invariant.0 c.config_in-t.ensures c.loop-made-test.true c.pick-drawn.ensures c.in-Some.is in
     record { config = c.config_in-t.ensures; places = asked.0; sums = asked.1 }
-
-pub overflow_add-made : goal.overflow_add-made
-overflow_add-made c = omega arith
 
 pub returns-then-not-is_bounded : goal.returns-then-not-is_bounded
 returns-then-not-is_bounded c =
     let l = c.loop-made in record {
       outcome = outcome_of c.stop_outside-then-not-is_bounded.ensures _
-          ∙ sym (ends_outside l.invariant.0 c.config_in-t.ensures c.loop-made-test.true c.pick-drawn.ensures c.in-Step.is
+          ∙ sym (ends_outside l.invariant.0 c.config_in-t.ensures c.loop-made-test.true c.pick-drawn.ensures c.in-Some.is
           c.make-next.ensures.made (sym c.is_bounded.ensures ∙ c.if-not-is_bounded.true));
       spare = c.make-next.ensures.spare ∙ l.invariant.1;
     }
@@ -101,19 +93,16 @@ root_reports-reports-requires-in-loop-made c =
 pub follow-sizes-requires : goal.follow-sizes-requires
 follow-sizes-requires c =
     let inv = c.loop-made.invariant.0 in
-    let given = c.in-Step.is in record {
+    let given = c.in-Some.is in record {
       places = both_low inv c.config_in-t.ensures c.loop-made-test.true c.pick-drawn.ensures given;
       rows = others-held inv c.config_in-t.ensures c.loop-made-test.true c.pick-drawn.ensures given
           c.make-next.ensures.made c.root_reports-reports-in-loop-made.ensures;
     }
 
-pub loop-made-smaller : goal.loop-made-smaller
-loop-made-smaller c = omega (arith, c.loop-made-test.true)
-
 pub loop-made-preserved : goal.loop-made-preserved
 loop-made-preserved c =
     let l = c.loop-made in (
-      goes_further l.invariant.0 c.config_in-t.ensures c.loop-made-test.true c.pick-drawn.ensures c.in-Step.is
+      goes_further l.invariant.0 c.config_in-t.ensures c.loop-made-test.true c.pick-drawn.ensures c.in-Some.is
           c.make-next.ensures.made c.root_reports-reports-in-loop-made.ensures c.retake-takers.ensures
           (sym c.is_bounded.ensures ∙ c.if-not-is_bounded.false) c.follow-sizes.ensures,
       c.make-next.ensures.spare ∙ l.invariant.1,
@@ -121,8 +110,11 @@ loop-made-preserved c =
 
 pub returns : goal.returns
 returns c =
-    let l = c.loop-made in record {
+    let l = c.loop-made in
+    let all : l.made ≡ length c.args.draws.now = omega arith in
+    let ends = ends_used l.invariant.0 c.loop-made-test.false c.total-c.ensures in record {
       outcome = outcome_of c.stop-2.ensures (net_of l.line l.boxes)
-          ∙ sym (ends_used l.invariant.0 c.loop-made-test.false c.total-c.ensures);
+          ∙ ap (λ (n : ℕ). record { number = 0; steps = n; rest = eqb c.total-c.result 0; net = net_of l.line l.boxes }) (sym all)
+          ∙ sym ends;
       spare = l.invariant.1;
     }

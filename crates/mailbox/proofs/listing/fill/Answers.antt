@@ -10,7 +10,7 @@ pub loop-sender-init : goal.loop-sender-init
 loop-sender-init c =
     let a = c.args in
     let row = receivers_of c.root-root.result a.takers a.reports a.boxes.now in
-    (omega arith, stored-none row c.requires.1, subst (Counted row 0) (sym c.no_sizes-sizes.ensures) (counted_none row))
+    (stored-none row (omega arith), subst (Counted row 0) (sym c.no_sizes-sizes.ensures) (counted_none row))
 
 pub loop-sender-preserved : goal.loop-sender-preserved
 unfolding receivers_of
@@ -20,10 +20,9 @@ loop-sender-preserved c =
     let row = receivers_of c.root-root.result a.takers a.reports a.boxes.now in
     let one = c.find_deliverable-a.ensures in
     let two = c.bit_if-b.ensures in (
-      omega arith,
-      stored-four row l.invariant.1 (omega arith) one two refl refl,
+      stored-four row l.invariant.0 (omega arith) one two refl refl,
       subst (Counted row (l.sender + 1)) (sym c.add-sizes.ensures)
-          (counted-four row l.invariant.2 (omega arith) (omega arith, omega arith, omega arith, omega arith) one two refl refl),
+          (counted-four row l.invariant.1 (omega arith) (omega arith, omega arith, omega arith, omega arith) one two refl refl),
     )
 
 pub returns : goal.returns
@@ -33,8 +32,8 @@ returns c =
     let root = c.root-root in
     let row = receivers_of root.result a.takers a.reports a.boxes.now in
     let all : l.sender ≡ a.t.k = omega arith in
-    let stored = rw all at l.invariant.1 in
-    let counted = rw all at l.invariant.2 in
+    let stored = rw all at l.invariant.0 in
+    let counted = rw all at l.invariant.1 in
     rw (← root.ensures)
     record {
       sized = stored.sized;

@@ -21,7 +21,7 @@ starts-next : (c : After-bit_if-starts)
 starts-next c =
     let i = c.loop-i.i in
     let low : i < 64 = omega (arith, c.requires) in
-    set_next _ i low c.loop-i.invariant.1
+    set_next _ i low c.loop-i.invariant.0
     (rw c.takes_start.ensures at c.bit_if-starts.ensures
     ∙ ap (λ (s : Station). bit_if (takes_start s) i) (c.load-s.ensures ∙ station_read_lem c.args.line.now i low))
 
@@ -32,13 +32,13 @@ answers_next : (c : After-bit_if-answers)
 answers_next c =
     let i = c.loop-i.i in
     let low : i < 64 = omega (arith, c.requires) in
-    set_next _ i low c.loop-i.invariant.2
+    set_next _ i low c.loop-i.invariant.1
     (rw c.takes_answer.ensures at c.bit_if-answers.ensures
     ∙ ap (λ (s : Station). bit_if (takes_answer s) i) (c.load-s.ensures ∙ station_read_lem c.args.line.now i low))
 
 pub loop-i-init : goal.loop-i-init
 unfolding set_of
-loop-i-init c = (omega arith, refl, refl)
+loop-i-init c = (refl, refl)
 
 pub overflow_add-starts : goal.overflow_add-starts
 overflow_add-starts c = omega (arith, (starts-next (goal.at.overflow_add-starts c).After-bit_if-starts).1)
@@ -46,19 +46,13 @@ overflow_add-starts c = omega (arith, (starts-next (goal.at.overflow_add-starts 
 pub overflow_add-answers : goal.overflow_add-answers
 overflow_add-answers c = omega (arith, (answers_next (goal.at.overflow_add-answers c).After-bit_if-answers).1)
 
-pub overflow_add-i : goal.overflow_add-i
-overflow_add-i c = omega (arith, c.requires)
-
-pub loop-i-smaller : goal.loop-i-smaller
-loop-i-smaller c = omega arith
-
 pub loop-i-preserved : goal.loop-i-preserved
 loop-i-preserved c =
-    let at = goal.at.loop-i-preserved c in (omega arith, (starts-next at.After-bit_if-starts).0, (answers_next at.After-bit_if-answers).0)
+    let at = goal.at.loop-i-preserved c in ((starts-next at.After-bit_if-starts).0, (answers_next at.After-bit_if-answers).0)
 
 pub returns : goal.returns
 unfolding takers_of
 returns c =
     let all : c.loop-i.i ≡ c.args.k = omega arith in
     let inv = rw all at c.loop-i.invariant in
-    ap₂ (λ (starts answers : ℕ). record { starts = starts; answers = answers }) inv.1 inv.2
+    ap₂ (λ (starts answers : ℕ). record { starts = starts; answers = answers }) inv.0 inv.1

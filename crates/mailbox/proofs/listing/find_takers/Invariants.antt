@@ -1,6 +1,5 @@
 -- `mailbox::listing::find_takers` meets its contract. Invariant: both sets of the stations below i. Assumes nothing.
 use mathlib.Core.Path.{◌≡◌}
-use Prim.Native.Nat.{◌-◌, ◌≤◌}
 use Rattle.bitset.specs.Internal.Selected.{set_of}
 use Rattle.stations.specs.Stations.{station_at}
 use Rattle.stations.specs.Words.{stations_in}
@@ -8,9 +7,5 @@ use Rattle.mailbox.specs.Internal.Receivers.{takes_start, takes_answer}
 use Rattle.mailbox.proofs.listing.find_takers.Given as goal
 
 abbrev pub invariant-loop-i : goal.invariant-loop-i
-invariant-loop-i l = (l.i ≤ l.k)
-    × (l.starts ≡ set_of l.i (λ x. takes_start (station_at (stations_in l.line) x)))
+invariant-loop-i l = (l.starts ≡ set_of l.i (λ x. takes_start (station_at (stations_in l.line) x)))
     × (l.answers ≡ set_of l.i (λ x. takes_answer (station_at (stations_in l.line) x)))
-
-abbrev pub decreases-loop-i : goal.decreases-loop-i
-decreases-loop-i l = l.k - l.i

@@ -45,7 +45,7 @@ returns-then-takers-old c =
     (hold_those two (λ s m t. others_or_two a.step s))
 
 pub fill-requires : goal.fill-requires
-fill-requires c = let p = c.requires in (p.places.0, p.rows.sized)
+fill-requires c = c.requires.places.0
 
 pub returns : goal.returns
 returns c = c.fill.ensures
