@@ -5,7 +5,8 @@ ghost use Rattle.capi.specs.Answers.{packed};
 ghost use Rattle.capi.specs.Steps.{run_of};
 ghost use Rattle.capi.specs.Internal.Values.{answer_numbers};
 
-use schedule::{Answer, Ran, RunAnswer};
+use refusal::Refusal;
+use schedule::{Ran, Step};
 
 // What a run answers: its number, with 1 where the net reached is quiescent (01: at rest), and the steps made.
 #[repr(C)]
@@ -16,22 +17,22 @@ pub struct Run {
 }
 
 // The number of a step's or a draw's answer, with the step made.
-pub(crate) fn number(answer: Answer) -> u64
+pub(crate) fn number(answer: Result<Step, Refusal>) -> u64
     ensures { result ≡ packed (answer_numbers answer) }
 {
     match answer {
-        Answer::Made(step) => 256
+        Ok(step) => 256
             * (step.kind as u64 + 256 * (step.sender as u64 + 256 * (step.receiver as u64))),
-        Answer::Refused(why) => refusal::number(why) as u64,
+        Err(why) => refusal::number(why) as u64,
     }
 }
 
-fn run_number(answer: RunAnswer) -> u8
+fn run_number(answer: Result<(), Refusal>) -> u8
     ensures { result ≡ run_number_of answer }
 {
     match answer {
-        RunAnswer::Stopped => 0,
-        RunAnswer::Refused(why) => refusal::number(why),
+        Ok(()) => 0,
+        Err(why) => refusal::number(why),
     }
 }
 

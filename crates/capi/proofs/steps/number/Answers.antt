@@ -2,8 +2,8 @@
 use native.Mathlib.Omega.{arith}
 use Rattle.capi.proofs.steps.number.Goals as goal
 
-pub returns-in-Made : goal.returns-in-Made
-returns-in-Made c = rw c.in-Made.is (omega arith)
+pub returns-in-Ok : goal.returns-in-Ok
+returns-in-Ok c = rw c.in-Ok.is (omega arith)
 
-pub returns-in-Refused : goal.returns-in-Refused
-returns-in-Refused c = rw c.in-Refused.is (omega (arith, c.number.ensures))
+pub returns-in-Err : goal.returns-in-Err
+returns-in-Err c = rw c.in-Err.is (omega (arith, c.number.ensures))
