@@ -1,5 +1,6 @@
 -- Where the loop over the draws stands: the lines before stand at the front of the buffer, and those left are those of the net reached. A
 -- draw that makes a step gives the first of them; where no draw is left or one is refused, only the closing line is left. Assumes nothing.
+use Rattle.std.specs.Prelude.{Result, Ok, Err}
 use mathlib.Core.Path.{◌≡◌, refl, sym, ap, ◌∙◌}
 use mathlib.Core.Bool.{false}
 use mathlib.Core.List.{List, [], ◌∷◌, ◌++◌, flat_map}
@@ -19,8 +20,6 @@ use Rattle.linemap.specs.Reading.{ReadOutcome}
 use Rattle.linemap.specs.Openings.{openable, opening_by, opening_of}
 use Rattle.linemap.specs.Openings as opening
 use Rattle.schedule.specs.declared.Step.{Step}
-use Rattle.schedule.specs.declared.Answer.{Answer}
-use Rattle.schedule.specs.declared.Answer.TheVariants.{Made, Refused}
 use Rattle.schedule.specs.Outcome.{step_outcome_of}
 use Rattle.schedule.specs.Draws.{draw_on, run_made}
 use Rattle.schedule.proofs.Made.{drawn_step, drawn_formed}
@@ -40,8 +39,8 @@ use Rattle.program.specs.Internal.Filling.{Opens, Roomy, StepsPut, Filled, bytes
 use Rattle.program.proofs.Lines.{bytes_le, bytes_next}
 
 -- a step that a draw made has its sender in the net
-pub sender-below : (net : Net) (d : ℕ) (answer : Answer) (next : Net) {step : Step} → step_outcome_of answer next ≡ draw_on rules net d
-    → answer ≡ Made step → step.sender < 64
+pub sender-below : (net : Net) (d : ℕ) (answer : Result Step Refusal) (next : Net) {step : Step} → step_outcome_of answer next ≡ draw_on rules net d
+    → answer ≡ Ok step → step.sender < 64
 sender-below net d answer next {step} e q =
     let made = (answer-made next e q).0 in
     (places net (drawn_formed rules net d step made) step (allowed_parts rules net step (drawn_step rules net d step made).0).0).0
@@ -118,7 +117,7 @@ module _ {s l l' : List ℕ} {draws : ℕ} {net : Net} {made end : ℕ} (w : Sta
         put = w.put;
       }
 
-  module _ (h : made < draws) {d : ℕ} (drawn : d ≡ draw_at s made) (answer : Answer) (next : Net)
+  module _ (h : made < draws) {d : ℕ} (drawn : d ≡ draw_at s made) (answer : Result Step Refusal) (next : Net)
       (e : step_outcome_of answer next ≡ draw_on rules net d) where
     below : made < length (draws_in s draws)
     below = omega (arith, length-tabulate (draw_at s) draws)
@@ -126,14 +125,14 @@ module _ {s l l' : List ℕ} {draws : ℕ} {net : Net} {made end : ℕ} (w : Sta
     the_draw : d ≡ get_or (draws_in s draws) made 0
     the_draw = drawn ∙ sym (get_d_tabulate (draw_at s) draws made 0 h)
 
-    pub refused_closes : {r : Refusal} → answer ≡ Refused r → StepsPut s l made end l'
+    pub refused_closes : {r : Refusal} → answer ≡ Err r → StepsPut s l made end l'
     refused_closes q =
         record {
           closing = w.left ∙ refused (input_opening s).map net made (draws_in s draws) below (rw (← the_draw) (answer_refused next e q));
           put = w.put;
         }
 
-    module _ {step : Step} (q : answer ≡ Made step) where
+    module _ {step : Step} (q : answer ≡ Ok step) where
       made-step : ((draw_on rules net d).made ≡ step ∷ []) × ((draw_on rules net d).net ≡ next)
       made-step = answer-made next e q
 

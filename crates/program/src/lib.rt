@@ -16,7 +16,7 @@ ghost use Rattle.program.specs.Internal.Filling.{Opens, Roomy, StepsPut, Filled}
 
 use linemap::Map;
 use opening::Opening;
-use schedule::{Answer, Step};
+use schedule::Step;
 pub use streams::run;
 use text::Line;
 
@@ -102,7 +102,7 @@ fn put_steps(input: &[u8], opened: Opening, out: &mut [u8]) -> Steps
     for made in 0..opened.draws {
         let here = net;
         let answer = rendezvous::draw(&mut net, &mut totals, opening::draw_at(input, made));
-        let Answer::Made(step) = answer else {
+        let Ok(step) = answer else {
             return Steps {
                 made: made,
                 end: end,

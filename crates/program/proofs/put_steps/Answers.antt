@@ -11,18 +11,18 @@ loop-made-init c = stands_first _ c.fresh.result c.requires.opens c.fresh.ensure
 
 pub step_line-requires : goal.step_line-requires
 step_line-requires c =
-    sender-below (net_in c.loop-made.net c.loop-made.totals) c.draw_at.result _ _ c.draw-answer.ensures.outcome c.in-Made.is
+    sender-below (net_in c.loop-made.net c.loop-made.totals) c.draw_at.result _ _ c.draw-answer.ensures.outcome c.in-Ok.is
 
 pub put_line_at-end-requires : goal.put_line_at-end-requires
 put_line_at-end-requires c =
     step_room c.loop-made.invariant c.loop-made-test.true c.draw_at.ensures _ _
-    c.draw-answer.ensures.outcome c.in-Made.is
+    c.draw-answer.ensures.outcome c.in-Ok.is
     c.requires.roomy
 
 pub loop-made-preserved : goal.loop-made-preserved
 loop-made-preserved c =
     stands_next c.loop-made.invariant c.loop-made-test.true c.draw_at.ensures _ _
-    c.draw-answer.ensures.outcome c.in-Made.is
+    c.draw-answer.ensures.outcome c.in-Ok.is
     (rw (c.step_line.ensures c.loop-made.totals) at c.put_line_at-end.ensures)
 
 pub returns-in_default : goal.returns-in_default
