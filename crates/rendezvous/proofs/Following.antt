@@ -6,7 +6,6 @@ use mathlib.Core.Logic.{◌⊎◌, inl, inr}
 use mathlib.Core.List.{List}
 use Prim.Native.Nat.{ℕ, ◌+◌, ◌≤◌, ◌<◌, ◌^◌}
 use native.Mathlib.Omega.{arith}
-use lib.ListN.{length}
 use lib.Dec.{eqb}
 use lib.Bits.{bit_and}
 use borrow.Author.Tests.{lt-ltb, ne_eqb}
@@ -25,7 +24,7 @@ use Rattle.rendezvous.specs.declared.listing.States.{States}
 use Rattle.rendezvous.specs.declared.listing.Sends.{Sends}
 use Rattle.rendezvous.specs.Figure.{wake, pass, answer}
 use Rattle.rendezvous.specs.Internal.Receivers.{takers_in, kept_at, Agree, Renewed, HasRows, HoldTakers, HoldSome}
-use Rattle.rendezvous.proofs.Kept.{stored_sized, stored_other}
+use Rattle.rendezvous.proofs.Kept.{stored_other}
 use Rattle.rendezvous.proofs.Filling.{and_lt}
 
 takers-lt : (kind : ℕ) (x : Sends) (states : States) → (states.asleep < 2 ^ 64) × (states.active < 2 ^ 64) × (x.report < 2 ^ 64)
@@ -158,8 +157,8 @@ module _ (set : ℕ) {k : ℕ} {states : States} {sent : ℕ → Sends} {rows : 
 put_other : (i j set : ℕ) (c : Bool) → j < 64 → (i ≡ j → ⊥) → member i (put j c set) ≡ member i set
 put_other i j set c l n = member-put j c set i l ∙ rw (ne_eqb i j n)
 
-module _ (step : Step) (hs : step.sender < 64) (hr : step.receiver < 64) (t : Config) (a b : Station) (kept : List ℕ) (states : States)
-    {kept₁ kept₂ : List ℕ} {states₁ states₂ : States} (x : Renewed t step.sender a kept states kept₁ states₁)
+module _ (step : Step) (hs : step.sender < 64) (hr : step.receiver < 64) (t : Config) (a b : Station) (kept : List Sends) (states : States)
+    {kept₁ kept₂ : List Sends} {states₁ states₂ : States} (x : Renewed t step.sender a kept states kept₁ states₁)
     (y : Renewed t step.receiver b kept₁ states₁ kept₂ states₂) where
   pub states_agree : Agree step states states₂
   states_agree =
@@ -172,8 +171,7 @@ module _ (step : Step) (hs : step.sender < 64) (hr : step.receiver < 64) (t : Co
             ∙ ap (λ (u : States). member i u.active) x.1 ∙ put_other i step.sender states.active _ hs o.0;
       }
 
-  pub kept_others : length kept ≡ 192 → (i : ℕ) → i < 64 → Others step i → kept_at kept₂ i ≡ kept_at kept i
-  kept_others sized i l o =
-      let sized₁ : length kept₁ ≡ 192 = ap length x.0 ∙ stored_sized kept sized step.sender hs _ in
-      ap (λ (w : List ℕ). kept_at w i) y.0 ∙ stored_other kept₁ sized₁ step.receiver hr _ i l o.1
-      ∙ ap (λ (w : List ℕ). kept_at w i) x.0 ∙ stored_other kept sized step.sender hs _ i l o.0
+  pub kept_others : (i : ℕ) → Others step i → kept_at kept₂ i ≡ kept_at kept i
+  kept_others i o =
+      ap (λ (w : List Sends). kept_at w i) y.0 ∙ stored_other kept₁ step.receiver _ i o.1
+      ∙ ap (λ (w : List Sends). kept_at w i) x.0 ∙ stored_other kept step.sender _ i o.0

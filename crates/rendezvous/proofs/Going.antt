@@ -41,7 +41,7 @@ use Rattle.rendezvous.specs.declared.listing.Sends.{Sends}
 use Rattle.rendezvous.specs.Net.{Net, station, well_formed, with_stations, with_one}
 use Rattle.rendezvous.specs.Figure.{wake, pass, answer, assigned}
 use Rattle.rendezvous.specs.Telling.{tell, is_tell, known, hears_total, told_by}
-use Rattle.rendezvous.specs.Internal.Receivers.{in_state, states_of, restated, sends_of, kept_at, with_sends, takers_in}
+use Rattle.rendezvous.specs.Internal.Receivers.{in_state, states_of, restated, sends_of, kept_at, takers_in}
 use Rattle.rendezvous.specs.Internal.Receivers.{Agree, Renewed, AreSends, HoldTakers, HoldSome, sent_by, received_by, kept_by, with_made, made_of, keeps_form}
 use Rattle.rendezvous.specs.Rules.{rules}
 use Rattle.rendezvous.proofs.Laws.{k_most, root_most, sums-joinable}
@@ -57,7 +57,7 @@ pub held-told : {t u : Config} {states : States} {sent : ℕ → Sends} {rows : 
 held-told {states = states} {sent = sent} {rows = rows} {z = z} e h = subst (λ (v : Config). HoldTakers v.k states sent rows z) e h
 
 -- what is known of a net while a run goes on
-pub record Known (net : Net) (kept : List ℕ) (states : States) : Type 0 where
+pub record Known (net : Net) (kept : List Sends) (states : States) : Type 0 where
   pub sends_are : AreSends net net.config.k kept
   pub states_are : states ≡ states_of net
   pub full : length net.stations ≡ 64
@@ -79,7 +79,7 @@ module _ (net : Net) (few : net.config.k ≤ 64) (full : length net.stations ≡
   states_one : restated j s.state (states_of net) ≡ states_of (with_one net j s)
   states_one = ap₂ (λ (a b : ℕ). record { asleep = a; active = b }) (in_state-one asleep) (in_state-one active)
 
-  known-one : {kept kept' : List ℕ} {states states' : States} → Known net kept states → Renewed net.config j s kept states kept' states'
+  known-one : {kept kept' : List Sends} {states states' : States} → Known net kept states → Renewed net.config j s kept states kept' states'
       → Known (with_one net j s) kept' states'
   known-one K r =
       record {
@@ -89,7 +89,7 @@ module _ (net : Net) (few : net.config.k ≤ 64) (full : length net.stations ≡
       }
 
 -- what is kept says nothing of what stations may send
-known_as : (net : Net) (totals : List Aggregate) {kept : List ℕ} {states : States} → Known net kept states
+known_as : (net : Net) (totals : List Aggregate) {kept : List Sends} {states : States} → Known net kept states
     → Known (record { config = net.config; stations = net.stations; carrying = net.carrying; kept = totals }) kept states
 unfolding in_state
 known_as net totals K =
@@ -130,12 +130,12 @@ set_anew {A = A} l i j a b d h k =
     let at_i : get_or m i d ≡ a = get_or-set_other (set l i a) j i b d n ∙ get_or-set_same l i a d h in
     rw (at_i, at_j))
 
-pub record Going (first : Net) (draws : List ℕ) (here : Net) (states : States) (kept rows : List ℕ) (z : Sizes) (made : ℕ) : Type 0 where
+pub record Going (first : Net) (draws : List ℕ) (here : Net) (states : States) (kept : List Sends) (rows : List ℕ) (z : Sizes) (made : ℕ) : Type 0 where
   pub running : Running rules first draws here made
   pub known : Known here kept states
   pub held : HoldTakers here.config.k states (kept_at kept) rows z
 
-module _ {first : Net} {draws : List ℕ} {here : Net} {states : States} {kept rows : List ℕ} {z : Sizes} {made : ℕ}
+module _ {first : Net} {draws : List ℕ} {here : Net} {states : States} {kept : List Sends} {rows : List ℕ} {z : Sizes} {made : ℕ}
     (G : Going first draws here states kept rows z made) where
   formed : well_formed here ≡ true
   formed = G.running.formed
@@ -201,20 +201,20 @@ module _ {first : Net} {draws : List ℕ} {here : Net} {states : States} {kept r
             → run_on rules first draws ≡ record { number = number_of OutOfForm; steps = made + 1; rest = false; net = next }
         ends_outside b = unformed_with rules G.running h e q after (decides ∙ b)
 
-        module _ {kept₁ kept₂ : List ℕ} {states₁ states₂ : States} (x : Renewed t s.sender sender kept states kept₁ states₁)
+        module _ {kept₁ kept₂ : List Sends} {states₁ states₂ : States} (x : Renewed t s.sender sender kept states kept₁ states₁)
             (y : Renewed t s.receiver receiver kept₁ states₁ kept₂ states₂) where
           pub agree : Agree s states states₂
           agree = states_agree s sender-low receiver-low t sender receiver kept states x y
 
           pub others_hold : HoldSome (Others s) t.k states (kept_at kept₂) rows z
           others_hold =
-              let same = kept_others s sender-low receiver-low t sender receiver kept states x y G.known.sends_are.sized in
+              let same = kept_others s sender-low receiver-low t sender receiver kept states x y in
               let hold : HoldSome (Others s) here.config.k states (kept_at kept₂) rows z = record {
                 hold = record {
                   sized = G.held.sized;
                   small = small;
                   row = λ kind i g l m o. G.held.row kind i g l m
-                      ∙ ap (λ (w : Sends). takers_in kind w states) (sym (same i (omega (arith, m, few)) o));
+                      ∙ ap (λ (w : Sends). takers_in kind w states) (sym (same i o));
                   sizes = G.held.sizes;
                 };
               } in
@@ -224,9 +224,9 @@ module _ {first : Net} {draws : List ℕ} {here : Net} {states : States} {kept r
               → HoldTakers t.k states₂ (kept_at kept₂) rows₂ z₂ → Going first draws next states₂ kept₂ rows₂ z₂ (made + 1)
           goes_further b H =
               let first-in : Renewed here.config s.sender sender kept states kept₁ states₁ =
-              (x.0 ∙ ap (λ (u : Config). with_sends kept s.sender (sends_of u s.sender sender)) told, x.1) in
+              (x.0 ∙ ap (λ (u : Config). set kept s.sender (sends_of u s.sender sender)) told, x.1) in
               let then-in : Renewed here.config s.receiver receiver kept₁ states₁ kept₂ states₂ =
-              (y.0 ∙ ap (λ (u : Config). with_sends kept₁ s.receiver (sends_of u s.receiver receiver)) told, y.1) in
+              (y.0 ∙ ap (λ (u : Config). set kept₁ s.receiver (sends_of u s.receiver receiver)) told, y.1) in
               let middle = known-one here few G.known.full s.sender bounds.sender-low sender G.known first-in in
               let last = known-one (with_one here s.sender sender) few middle.full s.receiver bounds.receiver-low receiver middle then-in in
               record {

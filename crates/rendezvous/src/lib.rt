@@ -80,7 +80,7 @@ pub fn draw(net: &mut [u64; 705], totals: &mut [u64; 576], d: u16) -> Result<Ste
     ensures outcome { step_outcome_of result (net_in net.new totals.new) ≡ draw_on rules (net_in net.old totals.old) d }
     ensures beside { beside_in net.new ≡ beside_in net.old }
 {
-    let mut kept = [0u64; 192];
+    let mut kept = [listing::NO_SENDS; 64];
     let states = listing::survey(net, totals, &mut kept).ok_or(Refusal::OutOfForm)?;
     let t = stations::config_in(net);
     let mut rows = [0u64; 256];
@@ -98,7 +98,7 @@ pub fn run(net: &mut [u64; 705], totals: &mut [u64; 576], draws: &[u16]) -> Ran
     ensures outcome { run_outcome_of result (net_in net.new totals.new) ≡ run_on rules (net_in net.old totals.old) draws.now }
     ensures beside { beside_in net.new ≡ beside_in net.old }
 {
-    let mut kept = [0u64; 192];
+    let mut kept = [listing::NO_SENDS; 64];
     let found = listing::survey(net, totals, &mut kept);
     let Some(mut states) = found else {
         return schedule::stop_outside(0);

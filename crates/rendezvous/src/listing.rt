@@ -8,7 +8,7 @@ ghost use Rattle.stations.specs.Stations.{station_at};
 ghost use Rattle.stations.specs.Words.{config_in, stations_in};
 ghost use Rattle.rendezvous.specs.Net.{net_in, carrying_in};
 ghost use Rattle.rendezvous.specs.Rules.{rules};
-ghost use Rattle.rendezvous.specs.Internal.Receivers.{restated, sends_of, kept_at, with_sends};
+ghost use Rattle.rendezvous.specs.Internal.Receivers.{restated, sends_of, kept_at};
 ghost use Rattle.rendezvous.specs.Internal.Receivers.{Agree, Renewed, Surveyed, HasRows, HoldTakers, HoldSome};
 
 use crate::{CARRYING, form, telling};
@@ -43,6 +43,12 @@ pub(crate) struct Sends {
     pub(crate) report: u64,
 }
 
+pub(crate) const NO_SENDS: Sends = Sends {
+    starts: 0,
+    home: 0,
+    report: 0,
+};
+
 // What station j may send. Only an active station sends.
 fn find_sends(t: Config, j: u8, s: Station) -> Sends
     ensures { result ≡ sends_of t j s }
@@ -55,46 +61,12 @@ fn find_sends(t: Config, j: u8, s: Station) -> Sends
             report: bit_if(s.may_report(t, j), j),
         };
     }
-    Sends {
-        starts: 0,
-        home: 0,
-        report: 0,
-    }
-}
-
-// What station j may send, kept: for each of the three, a word a station.
-fn keep(kept: &mut [u64; 192], j: u8, sends: Sends)
-    requires { j < 64 }
-    ensures { kept.new ≡ with_sends kept.old j sends }
-{
-    let at = j as usize;
-    let starts = sends.starts;
-    let home = sends.home;
-    let report = sends.report;
-    kept[at] = starts;
-    kept[64 + at] = home;
-    kept[128 + at] = report;
-}
-
-// What is kept of station j.
-fn read_sends(kept: &[u64; 192], j: u8) -> Sends
-    requires { j < 64 }
-    ensures { result ≡ kept_at kept.now j }
-{
-    let at = j as usize;
-    let starts = kept[at];
-    let home = kept[64 + at];
-    let report = kept[128 + at];
-    Sends {
-        starts: starts,
-        home: home,
-        report: report,
-    }
+    NO_SENDS
 }
 
 // What is kept of a net, where station j has become another: what it may send, and the states.
 pub(crate) fn renew(
-    kept: &mut [u64; 192],
+    kept: &mut [Sends; 64],
     states: States,
     net: &[u64; 705],
     t: Config,
@@ -105,13 +77,17 @@ pub(crate) fn renew(
 {
     let s = form::read(net, j);
     let sends = find_sends(t, j, s);
-    keep(kept, j, sends);
+    kept[j as usize] = sends;
     restate(states, j, s.state)
 }
 
 // One pass over all stations: the form is tested, the states are found, and what each may send is kept. A net that is not well-formed has
 // nothing else that is asked for.
-pub(crate) fn survey(net: &[u64; 705], totals: &[u64; 576], kept: &mut [u64; 192]) -> Option<States>
+pub(crate) fn survey(
+    net: &[u64; 705],
+    totals: &[u64; 576],
+    kept: &mut [Sends; 64],
+) -> Option<States>
     ensures { Surveyed (net_in net.now totals.now) result kept.new }
 {
     let carrying = form::carrying_in(net);
@@ -138,7 +114,7 @@ pub(crate) fn survey(net: &[u64; 705], totals: &[u64; 576], kept: &mut [u64; 192
         asleep += bit_if(s.state == station::ASLEEP, j);
         active += bit_if(s.state == station::ACTIVE, j);
         let sends = find_sends(t, j, s);
-        keep(kept, j, sends);
+        kept[j as usize] = sends;
     }
     Some(States {
         asleep: asleep,
@@ -173,13 +149,13 @@ fn put_rows(rows: &mut [u64; 256], sizes: Sizes, states: States, sender: u8, sen
 }
 
 // The rows of what is kept, stored, and their sizes.
-pub(crate) fn fill(rows: &mut [u64; 256], k: u8, kept: &[u64; 192], states: States) -> Sizes
+pub(crate) fn fill(rows: &mut [u64; 256], k: u8, kept: &[Sends; 64], states: States) -> Sizes
     requires { k ≤ 64 }
     ensures { HoldTakers k states (kept_at kept.now) rows.new result }
 {
     let mut sizes = schedule::rows::no_sizes();
     for sender in 0..k {
-        let sends = read_sends(kept, sender);
+        let sends = kept[sender as usize];
         sizes = put_rows(rows, sizes, states, sender, sends);
     }
     sizes
@@ -189,7 +165,7 @@ pub(crate) fn fill(rows: &mut [u64; 256], k: u8, kept: &[u64; 192], states: Stat
 fn refill(
     rows: &mut [u64; 256],
     sizes: Sizes,
-    kept: &[u64; 192],
+    kept: &[Sends; 64],
     states: States,
     sender: u8,
 ) -> Sizes
@@ -199,7 +175,7 @@ fn refill(
 {
     let at = 4 * (sender as usize);
     let rest = schedule::rows::remove(sizes, rows[at], rows[at + 1], rows[at + 2], rows[at + 3]);
-    let sends = read_sends(kept, sender);
+    let sends = kept[sender as usize];
     put_rows(rows, rest, states, sender, sends)
 }
 
@@ -212,7 +188,7 @@ pub(crate) fn follow(
     rows: &mut [u64; 256],
     sizes: Sizes,
     k: u8,
-    kept: &[u64; 192],
+    kept: &[Sends; 64],
     old: States,
     states: States,
     step: Step,
@@ -233,10 +209,8 @@ pub(crate) fn follow(
     }
     let both = bitset::union(bit_if(true, step.sender), bit_if(true, step.receiver));
     for x in 0..k {
-        let at = x as usize;
-        let starts = kept[at];
-        let home = kept[64 + at];
-        let met = bitset::union(starts, home) & both;
+        let sends = kept[x as usize];
+        let met = bitset::union(sends.starts, sends.home) & both;
         if met != 0 {
             all = refill(rows, all, kept, states, x);
         }

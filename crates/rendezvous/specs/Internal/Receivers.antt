@@ -1,6 +1,6 @@
 -- A step in its parts, and the receivers of the allowed steps, as sets: what a sender may send, which changes with the sender alone, and who can
 -- take it by the states.
-use Rattle.std.specs.Prelude.{◌≡◌, Bool, true, false, not, cond, ◌&&◌, ◌||◌, List, ℕ, ◌+◌, ◌^◌, ◌≤◌, ◌<◌, length, get_or, set, eqb, Option, Some, None}
+use Rattle.std.specs.Prelude.{◌≡◌, Bool, true, false, not, cond, ◌&&◌, ◌||◌, List, ℕ, ◌^◌, ◌≤◌, ◌<◌, length, get_or, set, eqb, Option, Some, None}
 use Rattle.std.specs.Int.Bits.{bit_and}
 use Rattle.bitset.specs.Set.{member, without, bit_if, put}
 use Rattle.bitset.specs.Internal.Selected.{set_of}
@@ -112,31 +112,27 @@ sends_of t j s = record { starts = startable j s; home = answerable t j s; repor
 abbrev pub sent_in : Net → ℕ → Sends
 sent_in net j = sends_of net.config j (station net j)
 
--- what is kept of station j: for each of the three, a word a station
-abbrev pub kept_at : List ℕ → ℕ → Sends
-kept_at kept j = record { starts = get_or kept j 0; home = get_or kept (64 + j) 0; report = get_or kept (128 + j) 0 }
-
--- the words, with those of station j
-abbrev pub with_sends : List ℕ → ℕ → Sends → List ℕ
-with_sends kept j x = set (set (set kept j x.starts) (64 + j) x.home) (128 + j) x.report
+-- what is kept of station j
+abbrev pub kept_at : List Sends → ℕ → Sends
+kept_at kept j = get_or kept j (record { starts = 0; home = 0; report = 0 })
 
 -- what is kept of a net, where station j has become s: what it may send, and the states
-abbrev pub Renewed : Config → ℕ → Station → List ℕ → States → List ℕ → States → Type 0
-Renewed t j s kept states kept' states' = (kept' ≡ with_sends kept j (sends_of t j s)) × (states' ≡ restated j s.state states)
+abbrev pub Renewed : Config → ℕ → Station → List Sends → States → List Sends → States → Type 0
+Renewed t j s kept states kept' states' = (kept' ≡ set kept j (sends_of t j s)) × (states' ≡ restated j s.state states)
 
 -- what the stations below n of the net may send is kept
-pub record AreSends (net : Net) (n : ℕ) (kept : List ℕ) : Type 0 where
-  pub sized : length kept ≡ 192
+pub record AreSends (net : Net) (n : ℕ) (kept : List Sends) : Type 0 where
+  pub sized : length kept ≡ 64
   pub word : (j : ℕ) → j < n → kept_at kept j ≡ sent_in net j
 
 -- what a pass over all stations finds of a net in form: who is in which state, and what each may send
-pub record Found (net : Net) (states : States) (kept : List ℕ) : Type 0 where
+pub record Found (net : Net) (states : States) (kept : List Sends) : Type 0 where
   pub form : well_formed net ≡ true
   pub states_are : states ≡ states_of net
   pub sends_are : AreSends net net.config.k kept
 
 -- and whether the net is in form
-abbrev pub Surveyed : Net → Option States → List ℕ → Type 0
+abbrev pub Surveyed : Net → Option States → List Sends → Type 0
 Surveyed net None kept = well_formed net ≡ false
 Surveyed net (Some states) kept = Found net states kept
 

@@ -61,24 +61,6 @@ loop-x-init c =
     let one = held_anew p.0 stand step.sender p.1.0 c.refill-one.ensures in
     passed_none _ step set (held_anew p.0 one step.receiver p.1.1 c.refill-all.ensures)
 
-pub overflow_cast-at : goal.overflow_cast-at
-overflow_cast-at c = omega (arith, low (goal.at.overflow_cast-at c).In-loop-x)
-
-pub offset_bounds-kept-at : goal.offset_bounds-kept-at
-offset_bounds-kept-at c = omega (arith, low (goal.at.offset_bounds-kept-at c).In-loop-x)
-
-pub bounds-kept-at : goal.bounds-kept-at
-bounds-kept-at c = omega (arith, low (goal.at.bounds-kept-at c).In-loop-x)
-
-pub overflow_add-home : goal.overflow_add-home
-overflow_add-home c = omega (arith, low (goal.at.overflow_add-home c).In-loop-x)
-
-pub offset_bounds-kept-at-in-loop-x : goal.offset_bounds-kept-at-in-loop-x
-offset_bounds-kept-at-in-loop-x c = omega (arith, low (goal.at.offset_bounds-kept-at-in-loop-x c).In-loop-x)
-
-pub bounds-kept-at-in-loop-x : goal.bounds-kept-at-in-loop-x
-bounds-kept-at-in-loop-x c = omega (arith, low (goal.at.bounds-kept-at-in-loop-x c).In-loop-x)
-
 pub refill-all-requires-then-met-ne0 : goal.refill-all-requires-then-met-ne0
 refill-all-requires-then-met-ne0 c = low (goal.at.refill-all-requires-then-met-ne0 c).In-loop-x
 

@@ -11,4 +11,4 @@ returns c =
     let two : 4 * s + 2 - 1 ≡ 4 * s + 1 = omega arith in
     let three : 4 * s + 3 - 1 ≡ 4 * s + 2 = omega arith in
     let four : 4 * s + 4 - 1 ≡ 4 * s + 3 = omega arith in
-    rw (one, two, three, four) (rw (c.remove-rest.ensures, c.read_sends-sends.ensures) at c.put_rows.ensures)
+    rw (one, two, three, four) (rw c.remove-rest.ensures at c.put_rows.ensures)

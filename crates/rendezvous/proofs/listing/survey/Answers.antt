@@ -1,6 +1,6 @@
 -- `rendezvous::listing::survey` meets its contract. Invariant: the stations below j are in form, both sets are of them, and what they may send is
 -- kept; one that is not in form ends it. Assumes nothing.
-use mathlib.Core.Path.{◌≡◌, refl, sym, ◌∙◌, ap, ap₂, subst}
+use mathlib.Core.Path.{◌≡◌, refl, sym, ◌∙◌, ap, ap₂}
 use mathlib.Core.Bool.{true}
 use Prim.Native.Nat.{ℕ, ◌+◌, ◌≤◌, ◌<◌, ◌^◌}
 use native.Mathlib.Omega.{arith}
@@ -18,7 +18,7 @@ use Rattle.station.specs.declared.Station.{Station}
 use Rattle.station.specs.Events as events
 use Rattle.stations.specs.Kept.{kept_read}
 use Rattle.rendezvous.specs.Net.{Net, net_in}
-use Rattle.rendezvous.specs.Internal.Receivers.{in_state, place_formed, sends_of, AreSends}
+use Rattle.rendezvous.specs.Internal.Receivers.{in_state, place_formed, sends_of}
 use Rattle.rendezvous.proofs.Kept.{kept_none, kept_next}
 use Rattle.rendezvous.proofs.FormAfter.{barred_config, barred_place, all_placed, place_read, placed, unformed_flag}
 use Rattle.rendezvous.proofs.listing.survey.Invariants.{below}
@@ -105,8 +105,8 @@ overflow_add-asleep c = omega (arith, (asleep-next c).1)
 pub overflow_add-active : goal.overflow_add-active
 overflow_add-active c = omega (arith, (active-next c).1)
 
-pub keep-requires : goal.keep-requires
-keep-requires c = low (goal.at.keep-requires c).In-loop-j
+pub bounds-kept-j : goal.bounds-kept-j
+bounds-kept-j c = low (goal.at.bounds-kept-j c).In-loop-j
 
 pub loop-j-preserved : goal.loop-j-preserved
 loop-j-preserved c =
@@ -117,7 +117,7 @@ loop-j-preserved c =
       rw (all_below_more _ l.j, l.invariant.0, sym (placed_told at.Joined-carrying-eq-CARRYING (low at.In-loop-j)) ∙ c.if-not-placed.false),
       (asleep-next at.After-bit_if-asleep).0,
       (active-next at.After-bit_if-active).0,
-      subst (AreSends net (l.j + 1)) (sym c.keep.ensures) (kept_next net l.invariant.3 (low at.In-loop-j) sends),
+      kept_next net l.invariant.3 (low at.In-loop-j) sends,
     )
 
 pub returns : goal.returns
