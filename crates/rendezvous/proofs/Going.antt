@@ -25,6 +25,7 @@ use Rattle.aggregate.specs.Aggregate.{root_of, joinable, clipped}
 use Rattle.station.specs.declared.Station.{Station}
 use Rattle.station.specs.Events.{asleep, active}
 use Rattle.stations.specs.Stations.{no_station}
+use Rattle.stations.specs.Words.{config_in}
 use Rattle.schedule.specs.declared.Step.{Step}
 use Rattle.schedule.specs.declared.rows.Sizes.{Sizes}
 use Rattle.schedule.specs.Rules.{allowed}
@@ -38,11 +39,11 @@ use Rattle.schedule.proofs.Drawing.{drawn_allowed}
 use Rattle.schedule.proofs.Running.{Running, goes_on_with, unformed_with, at-rest_with}
 use Rattle.rendezvous.specs.declared.listing.States.{States}
 use Rattle.rendezvous.specs.declared.listing.Sends.{Sends}
-use Rattle.rendezvous.specs.Net.{Net, station, well_formed, with_stations, with_one}
+use Rattle.rendezvous.specs.Net.{Net, net_in, station, well_formed, with_stations, with_one}
 use Rattle.rendezvous.specs.Figure.{wake, pass, answer, assigned}
 use Rattle.rendezvous.specs.Telling.{tell, is_tell, known, hears_total, told_by}
 use Rattle.rendezvous.specs.Internal.Receivers.{in_state, states_of, restated, sends_of, kept_at, takers_in}
-use Rattle.rendezvous.specs.Internal.Receivers.{Agree, Renewed, AreSends, HoldTakers, HoldSome, sent_by, received_by, kept_by, with_made, made_of, keeps_form}
+use Rattle.rendezvous.specs.Internal.Receivers.{Read, Agree, Renewed, AreSends, HoldTakers, HoldSome, sent_by, received_by, kept_by, with_made, made_of, keeps_form}
 use Rattle.rendezvous.specs.Rules.{rules}
 use Rattle.rendezvous.proofs.Laws.{k_most, root_most, sums-joinable}
 use Rattle.rendezvous.proofs.RowSets.{rows_filled}
@@ -55,6 +56,10 @@ use Rattle.rendezvous.proofs.FormAfter.{next_formed}
 pub held-told : {t u : Config} {states : States} {sent : ℕ → Sends} {rows : List ℕ} {z : Sizes} → t ≡ u
     → HoldTakers t.k states sent rows z → HoldTakers u.k states sent rows z
 held-told {states = states} {sent = sent} {rows = rows} {z = z} e h = subst (λ (v : Config). HoldTakers v.k states sent rows z) e h
+
+-- what code reads of the words of a net in form
+pub read : (words totals : List ℕ) → well_formed (net_in words totals) ≡ true → {t : Config} → t ≡ config_in words → Read words t
+read words totals f e = record { config = e; few = rw e (k_most (net_in words totals) f); root = rw e (root_most (net_in words totals) f) }
 
 -- what is known of a net while a run goes on
 pub record Known (net : Net) (kept : List Sends) (states : States) : Type 0 where
@@ -137,7 +142,7 @@ pub record Going (first : Net) (draws : List ℕ) (here : Net) (states : States)
 
 module _ {first : Net} {draws : List ℕ} {here : Net} {states : States} {kept : List Sends} {rows : List ℕ} {z : Sizes} {made : ℕ}
     (G : Going first draws here states kept rows z made) where
-  formed : well_formed here ≡ true
+  pub formed : well_formed here ≡ true
   formed = G.running.formed
 
   pub few : here.config.k ≤ 64
@@ -148,9 +153,6 @@ module _ {first : Net} {draws : List ℕ} {here : Net} {states : States} {kept :
 
   small : (kind s : ℕ) → 1 ≤ kind → kind ≤ 4 → s < here.config.k → row_at rows kind s < 2 ^ 64
   small kind s h l m = rw (filled.are.row kind s h l m) (lt_of_lt_of_le (set-lt here.config.k _) (pow_mono few))
-
-  pub config_low : {t : Config} → t ≡ here.config → (t.k ≤ 64) × (root_of t < 64)
-  config_low e = rw e (few, root_most here formed)
 
   -- t is what the code has read of the net, and p what it has drawn
   module _ {t : Config} (told : t ≡ here.config) (h : made < length draws) {p : Option Step} (e : p ≡ picked (listed rules here) (get_or draws made 0)) where

@@ -1,14 +1,13 @@
 // What each station may send, kept while a run goes on, and the rows of the allowed steps: for each sender and kind, the receivers, as a set.
 ghost use Rattle.std.specs.Prelude.{◌≡◌, List, ℕ, ◌≤◌, ◌<◌, length, eqb};
-ghost use Rattle.aggregate.specs.Aggregate.{root_of};
 ghost use Rattle.schedule.specs.Listing.{listed};
 ghost use Rattle.schedule.specs.Draws.{picked};
 ghost use Rattle.schedule.specs.Internal.Rows.{sizes_without, Others, Filled};
 ghost use Rattle.stations.specs.Stations.{station_at};
-ghost use Rattle.stations.specs.Words.{config_in, stations_in};
+ghost use Rattle.stations.specs.Words.{stations_in};
 ghost use Rattle.rendezvous.specs.Net.{net_in, carrying_in};
 ghost use Rattle.rendezvous.specs.Rules.{rules};
-ghost use Rattle.rendezvous.specs.Internal.Receivers.{restated, sends_of, kept_at};
+ghost use Rattle.rendezvous.specs.Internal.Receivers.{restated, sends_of, kept_at, Read};
 ghost use Rattle.rendezvous.specs.Internal.Receivers.{Agree, Renewed, Surveyed, HasRows, HoldTakers, HoldSome};
 
 use crate::{CARRYING, form, telling};
@@ -226,8 +225,7 @@ pub(crate) fn choose_beside(
     t: Config,
     d: u16,
 ) -> Option<Step>
-    requires config { t ≡ config_in net.now }
-    requires places { (t.k ≤ 64) × (root_of t < 64) }
+    requires read { Read net.now t }
     requires back { carrying_in net.now ≡ 1 }
     ensures { (kept : List ℕ) → Filled rules (net_in net.now kept) rows.now sizes
         → result ≡ picked (listed rules (net_in net.now kept)) d }
@@ -245,8 +243,7 @@ pub(crate) fn choose(
     t: Config,
     d: u16,
 ) -> Option<Step>
-    requires config { t ≡ config_in net.now }
-    requires places { (t.k ≤ 64) × (root_of t < 64) }
+    requires { Read net.now t }
     ensures { (kept : List ℕ) → Filled rules (net_in net.now kept) rows.now sizes
         → result ≡ picked (listed rules (net_in net.now kept)) d }
 {
@@ -258,8 +255,7 @@ pub(crate) fn choose(
 
 // Whether the net is quiescent (01: at rest): no step is allowed that a draw could pick.
 pub(crate) fn is_at_rest(net: &[u64; 705], rows: &[u64; 256], sizes: Sizes, t: Config) -> bool
-    requires config { t ≡ config_in net.now }
-    requires places { (t.k ≤ 64) × (root_of t < 64) }
+    requires { Read net.now t }
     ensures { (kept : List ℕ) → Filled rules (net_in net.now kept) rows.now sizes
         → result ≡ eqb (length (listed rules (net_in net.now kept))) 0 }
 {

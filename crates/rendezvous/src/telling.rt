@@ -2,11 +2,10 @@
 ghost use Rattle.std.specs.Prelude.{◌≡◌, true, cond, List, [], ℕ, ◌≤◌, ◌<◌, replicate, set, eqb};
 ghost use Rattle.aggregate.specs.Aggregate.{root_of, clipped};
 ghost use Rattle.station.specs.Events.{finished};
-ghost use Rattle.stations.specs.Words.{config_in};
 ghost use Rattle.stations.specs.Kept.{kept_in, kept_read};
 ghost use Rattle.rendezvous.specs.Net.{net_in, settled};
 ghost use Rattle.rendezvous.specs.Telling as Rules;
-ghost use Rattle.rendezvous.specs.Internal.Receivers.{may_tell_of, Teller, AreTells};
+ghost use Rattle.rendezvous.specs.Internal.Receivers.{may_tell_of, Read, Teller, AreTells};
 
 use crate::{TELL, TOLD, form};
 use aggregate::Config;
@@ -66,8 +65,8 @@ pub(crate) fn keep_total(totals: &mut [u64; 576], t: Config, step: Step, s: Stat
 
 // The station that may tell i, once the desk has reported.
 fn find_teller(net: &[u64; 705], t: Config, i: u8) -> Option<u8>
-    requires config { t ≡ config_in net.now }
-    requires places { (t.k ≤ 64) × ((root_of t < 64) × (i < 64)) }
+    requires read { Read net.now t }
+    requires low { i < 64 }
     requires reported { Rules.is_reported (net_in net.now []) ≡ true }
     ensures { (kept : List ℕ) → Teller (net_in net.now kept) i result }
 {
@@ -86,8 +85,7 @@ fn find_teller(net: &[u64; 705], t: Config, i: u8) -> Option<u8>
 
 // The rows of the tells, a set of receivers for each sender.
 pub(crate) fn fill_tells(tells: &mut [u64; 260], net: &[u64; 705], t: Config)
-    requires config { t ≡ config_in net.now }
-    requires places { (t.k ≤ 64) × (root_of t < 64) }
+    requires read { Read net.now t }
     requires empty { tells.old ≡ replicate 260 0 }
     ensures { (kept : List ℕ) → AreTells (net_in net.now kept) t.k tells.new }
 {

@@ -13,9 +13,9 @@ use Rattle.schedule.proofs.Drawing.{drawn_nothing, drawn_allowed, drawn_accepted
 use Rattle.rendezvous.specs.Net.{Net, net_in}
 use Rattle.rendezvous.specs.Rules.{rules}
 use Rattle.rendezvous.specs.Internal.Receivers.{Found}
-use Rattle.rendezvous.proofs.Laws.{k_most, root_most, places, sums-joinable}
+use Rattle.rendezvous.proofs.Laws.{k_most, places, sums-joinable}
 use Rattle.rendezvous.proofs.RowSets.{rows_filled}
-use Rattle.rendezvous.proofs.Going.{held-told, made-is}
+use Rattle.rendezvous.proofs.Going.{read, held-told, made-is}
 use Rattle.rendezvous.proofs.draw.Goals as goal
 use Rattle.rendezvous.proofs.draw.Goals.{After-fill-sizes, After-choose, In_ok-step}
 
@@ -48,11 +48,10 @@ fill-sizes-requires c =
     let found : Found net c.in_ok-states.states c.survey.new.kept = rw c.in_ok-states.ensures.ok_part at c.survey.ensures in
     subst (λ (t : Config). t.k ≤ 64) (sym c.config_in-t.ensures) (k_most net found.form)
 
-pub choose-requires-clause-places : goal.choose-requires-clause-places
-choose-requires-clause-places c =
-    let here = (goal.at.choose-requires-clause-places c).After-fill-sizes in
-    let form = (found here).form in
-    subst (λ (t : Config). (t.k ≤ 64) × (root_of t < 64)) (sym c.config_in-t.ensures) (k_most (net_at here) form, root_most (net_at here) form)
+pub choose-requires : goal.choose-requires
+choose-requires c =
+    let here = (goal.at.choose-requires c).After-fill-sizes in
+    read c.args.net.now c.args.totals.now (found here).form c.config_in-t.ensures
 
 pub returns-in_err-step-clause-outcome : goal.returns-in_err-step-clause-outcome
 returns-in_err-step-clause-outcome c =

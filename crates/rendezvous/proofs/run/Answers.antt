@@ -14,7 +14,7 @@ use Rattle.rendezvous.specs.Net.{net_in}
 use Rattle.rendezvous.specs.Rules.{rules}
 use Rattle.rendezvous.proofs.Laws.{k_most}
 use Rattle.rendezvous.proofs.RowSets.{picked-flat}
-use Rattle.rendezvous.proofs.Going.{held-told, filled, config_low, rests, both_low, sender-low, receiver-low, joins, ends_outside, agree}
+use Rattle.rendezvous.proofs.Going.{held-told, filled, formed, read, rests, both_low, sender-low, receiver-low, joins, ends_outside, agree}
 use Rattle.rendezvous.proofs.Going.{others_hold, goes_further}
 use Rattle.rendezvous.proofs.run.Goals as goal
 use Rattle.rendezvous.proofs.run.Goals.{In-Some-drawn, Joined-carrying_in-eq-CARRYING, then-carrying_in-eq-CARRYING, else-carrying_in-eq-CARRYING}
@@ -65,8 +65,8 @@ loop-made-init c =
       refl,
     )
 
-pub choose_beside-drawn-requires-clause-places : goal.choose_beside-drawn-requires-clause-places
-choose_beside-drawn-requires-clause-places c = config_low c.loop-made.invariant.0 c.config_in-t.ensures
+pub choose_beside-drawn-requires-clause-read : goal.choose_beside-drawn-requires-clause-read
+choose_beside-drawn-requires-clause-read c = read c.loop-made.net c.loop-made.totals (formed c.loop-made.invariant.0) c.config_in-t.ensures
 
 pub returns-in_default-drawn-clause-outcome : goal.returns-in_default-drawn-clause-outcome
 returns-in_default-drawn-clause-outcome c =
@@ -129,8 +129,8 @@ loop-made-preserved c =
       c.make.ensures.spare ∙ c.loop-made.invariant.1,
     )
 
-pub is_at_rest-rest-requires-clause-places : goal.is_at_rest-rest-requires-clause-places
-is_at_rest-rest-requires-clause-places c = config_low c.loop-made.invariant.0 c.config_in-t-2.ensures
+pub is_at_rest-rest-requires : goal.is_at_rest-rest-requires
+is_at_rest-rest-requires c = read c.loop-made.net c.loop-made.totals (formed c.loop-made.invariant.0) c.config_in-t-2.ensures
 
 pub returns-clause-outcome : goal.returns-clause-outcome
 returns-clause-outcome c =

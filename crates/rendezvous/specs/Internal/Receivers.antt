@@ -10,6 +10,7 @@ use Rattle.aggregate.specs.Aggregate.{root_of, bounded, clipped}
 use Rattle.station.specs.declared.Station.{Station}
 use Rattle.station.specs.Events.{asleep, active, finished, may_report, may_answer}
 use Rattle.station.specs.Form as form
+use Rattle.stations.specs.Words.{config_in}
 use Rattle.schedule.specs.declared.Step.{Step}
 use Rattle.schedule.specs.declared.rows.Sizes.{Sizes}
 use Rattle.schedule.specs.Rows.{row_at, added}
@@ -64,6 +65,12 @@ place_formed carrying t i s v =
 abbrev pub may_tell_of : Config → ℕ → ℕ → Bool → Station → Station → Bool
 may_tell_of t j i reported s r =
     reported && cond (eqb j (root_of t)) reported (eqb s.state told) && eqb r.state finished && not (eqb i (root_of t)) && eqb r.parent j
+
+-- what code has read of the words of a net in form: what it was opened with
+pub record Read (words : List ℕ) (t : Config) : Type 0 where
+  pub config : t ≡ config_in words
+  pub few : t.k ≤ 64
+  pub root : root_of t < 64
 
 -- no station may tell i
 pub record Untold (net : Net) (i : ℕ) : Type 0 where

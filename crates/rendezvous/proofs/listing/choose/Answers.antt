@@ -5,8 +5,7 @@ use Rattle.rendezvous.proofs.RowSets.{picked-flat}
 use Rattle.rendezvous.proofs.listing.choose.Goals as goal
 
 pub choose_beside-requires : goal.choose_beside-requires
-choose_beside-requires c =
-    let pre = c.requires in record { config = pre.config; places = pre.places; back = sym c.carrying_in.ensures ∙ c.if-carrying_in-eq-CARRYING.true }
+choose_beside-requires c = record { read = c.requires; back = sym c.carrying_in.ensures ∙ c.if-carrying_in-eq-CARRYING.true }
 
 pub returns-then-carrying_in-eq-CARRYING : goal.returns-then-carrying_in-eq-CARRYING
 returns-then-carrying_in-eq-CARRYING c kept F = c.choose_beside.ensures kept F

@@ -17,7 +17,7 @@ pub returns : goal.returns
 returns c kept F =
     let a = c.args in
     let net = net_in a.net.now kept in
-    let told = c.requires.config in
+    let told = c.requires.read.config in
     let tells = c.fill_tells.new.tells in
     let back : carries net ≡ true = eq-eqb _ 1 c.requires.back in
     let are : AreTells net net.config.k tells = subst (λ (t : Config). AreTells net t.k tells) told (c.fill_tells.ensures kept) in

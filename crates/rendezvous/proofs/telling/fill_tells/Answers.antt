@@ -20,13 +20,13 @@ abbrev net : Start → Net
 net c = net_in c.args.net.now []
 
 few : (c : Start) → (net c).config.k ≤ 64
-few c = subst (λ (t : Config). t.k ≤ 64) c.requires.config c.requires.places.0
+few c = subst (λ (t : Config). t.k ≤ 64) c.requires.read.config c.requires.read.few
 
 same-k : (c : Start) → c.args.t.k ≡ (net c).config.k
-same-k c = ap (λ (t : Config). t.k) c.requires.config
+same-k c = ap (λ (t : Config). t.k) c.requires.read.config
 
 low : (c : In-loop-i) → c.loop-i.i < 64
-low c = omega (arith, c.loop-i-test.true, c.requires.places.0)
+low c = omega (arith, c.loop-i-test.true, c.requires.read.few)
 
 -- who tells the station of a turn
 teller : (c : In-Some) → ToldBy (net_in c.args.net.now []) c.loop-i.i c.in-Some.p
@@ -73,7 +73,7 @@ returns-else-desk-eq-FINISHED c kept =
     let desk : c.read-desk.result ≡ station (net start) (root_of (net start).config) =
     c.read-desk.ensures
     ∙ ap (station (net start)) c.root.ensures
-    ∙ ap (λ (t : Config). station (net start) (root_of t)) c.requires.config in
+    ∙ ap (λ (t : Config). station (net start) (root_of t)) c.requires.read.config in
     let early : is_reported (net start) ≡ false = ap (λ (s : Station). eqb s.state 2) (sym desk) ∙ ne_eqb _ 2 c.if-desk-eq-FINISHED.false in
     tells_any words [] kept c.args.t.k _
     (subst (λ (l : List ℕ). AreTells (net start) c.args.t.k l) (sym c.requires.empty)

@@ -22,10 +22,10 @@ abbrev net : Start → Net
 net c = net_in c.args.net.now []
 
 same-k : (c : Start) → c.args.t.k ≡ (net c).config.k
-same-k c = ap (λ (t : Config). t.k) c.requires.config
+same-k c = ap (λ (t : Config). t.k) c.requires.read.config
 
 root-read : (c : After-root-root) → c.root-root.result ≡ root_of (net_in c.args.net.now []).config
-root-read c = c.root-root.ensures ∙ ap root_of c.requires.config
+root-read c = c.root-root.ensures ∙ ap root_of c.requires.read.config
 
 read : (c : After-read-s) → c.read-s.result ≡ station (net_in c.args.net.now []) c.args.i
 read c = c.read-s.ensures
@@ -40,8 +40,8 @@ passed : (c : Else-i-root) → let n = net_in c.args.net.now [] in
     let s = station n c.args.i in
     (eqb c.args.i (root_of n.config) ≡ false) × (eqb s.state 2 ≡ true) × (leb n.config.k s.parent ≡ false)
 passed c =
-    let same = ap (λ (t : Config). t.k) c.requires.config in
-    none_left _ _ _ (rw (c.root-root.ensures ∙ ap root_of c.requires.config, c.read-s.ensures, same) at c.if-i-root.false)
+    let same = ap (λ (t : Config). t.k) c.requires.read.config in
+    none_left _ _ _ (rw (c.root-root.ensures ∙ ap root_of c.requires.read.config, c.read-s.ensures, same) at c.if-i-root.false)
 
 pub returns-then-i-root : goal.returns-then-i-root
 returns-then-i-root c kept =
@@ -65,7 +65,7 @@ parent_read c = c.read-p.ensures ∙ ap (λ (s : Station). station (net_in c.arg
 no_desk : (c : Else-parent-root) → let n = net_in c.args.net.now [] in
     eqb (station n c.args.i).parent (root_of n.config) ≡ false
 no_desk c =
-    let root = c.root-root.ensures ∙ ap root_of c.requires.config in
+    let root = c.root-root.ensures ∙ ap root_of c.requires.read.config in
     ne_eqb _ _ (λ e. c.if-parent-root.false (ap (λ (s : Station). s.parent) c.read-s.ensures ∙ e ∙ sym root))
 
 pub returns-then-parent-root : goal.returns-then-parent-root
@@ -81,7 +81,7 @@ pub read-p-requires : goal.read-p-requires
 read-p-requires c =
     let at = goal.at.read-p-requires c in
     let below = leb-false (net at.Start).config.k (station (net at.Start) c.args.i).parent (passed at.Else-i-root).2 in
-    omega (arith, ap (λ (s : Station). s.parent) (read at.After-read-s), below, same-k at.Start, c.requires.places.0)
+    omega (arith, ap (λ (s : Station). s.parent) (read at.After-read-s), below, same-k at.Start, c.requires.read.few)
 
 pub returns-then-p-eq-TOLD : goal.returns-then-p-eq-TOLD
 returns-then-p-eq-TOLD c kept =
