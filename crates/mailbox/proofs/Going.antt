@@ -1,15 +1,13 @@
--- The loop of a run, as the code has it: the net reached, who takes a message, and the rows with their sizes. Assumes nothing.
-use Rattle.std.specs.Prelude.{Option, Some, None}
+-- A step of a net whose steps are listed, as the code makes it: who takes a message, and the rows with their sizes, are known of the net after it.
+-- Assumes nothing.
+use Rattle.std.specs.Prelude.{Option}
 use mathlib.Core.Path.{◌≡◌, sym, ◌∙◌, ap, ap₂, subst}
-use mathlib.Core.Bool.{Bool, true, false}
+use mathlib.Core.Bool.{Bool, true}
 use mathlib.Core.List.{List}
-use Prim.Native.Nat.{ℕ, ◌+◌, ◌≤◌, ◌<◌}
+use Prim.Native.Nat.{ℕ, ◌≤◌, ◌<◌}
 use native.Mathlib.Omega.{arith}
-use lib.ListN.{length, get_or, set, length-set}
+use lib.ListN.{length, set, length-set}
 use lib.Seq.{get_or-set_same, get_or-set_other}
-use lib.Dec.{eqb}
-use Rattle.refusal.specs.declared.Refusal.TheVariants.{OutOfForm}
-use Rattle.refusal.specs.Refusal.{number_of}
 use Rattle.bitset.specs.Set.{put}
 use Rattle.bitset.specs.Internal.Selected.{set_of}
 use Rattle.bitset.proofs.Unions.{put-set}
@@ -20,31 +18,23 @@ use Rattle.stations.specs.Stations.{station_at, no_station}
 use Rattle.schedule.specs.declared.Step.{Step}
 use Rattle.schedule.specs.declared.rows.Sizes.{Sizes}
 use Rattle.schedule.specs.Rules.{allowed}
-use Rattle.schedule.specs.Rows.{picked_by_size, total_of}
+use Rattle.schedule.specs.Rows.{picked_by_size}
 use Rattle.schedule.specs.Internal.Rows.{Filled, Others}
 use Rattle.schedule.specs.Listing.{listed}
-use Rattle.schedule.specs.Draws.{picked, run_on}
+use Rattle.schedule.specs.Draws.{picked}
 use Rattle.schedule.proofs.Answers.{allowed_parts}
 use Rattle.schedule.proofs.Listing.{range_bounds, Bounds}
-use Rattle.schedule.proofs.Drawing.{total-is, of_list, drawn_allowed}
-use Rattle.schedule.proofs.Running.{Running, used_up_with, at-rest_with, goes_on_with, unformed_with}
-use Rattle.mail.specs.Mail.{mailbox_bounded, box_at, brought_at}
+use Rattle.schedule.proofs.Drawing.{of_list}
 use Rattle.mailbox.specs.declared.listing.Takers.{Takers}
+use Rattle.mailbox.specs.declared.kind.Listing.{Listing}
+use Rattle.mailbox.specs.Internal.Listings.{Lists}
 use Rattle.mailbox.specs.Net.{Net, station, well_formed}
 use Rattle.mailbox.specs.Internal.Receivers.{takes_start, takes_answer, root_reports, takers_of, retaken, HoldReceivers, AnySender, boxes_made, Made}
-use Rattle.mailbox.specs.Rules.{delivery, net_after, rules}
+use Rattle.mailbox.specs.Rules.{net_after, rules}
 use Rattle.mailbox.proofs.Laws.{k_most, root-placed}
 use Rattle.mailbox.proofs.RowSets.{filled}
 use Rattle.mailbox.proofs.Following.{others_hold}
-use Rattle.mailbox.proofs.FormAfter.{length-made, applied_is, step_receives, next_formed}
-
--- what is known of a net while a run goes on
-pub record Going (first : Net) (draws : List ℕ) (here : Net) (takers : Takers) (rows : List ℕ) (z : Sizes) (made : ℕ) : Type 0 where
-  pub running : Running rules first draws here made
-  pub long : length here.boxes ≡ 36992
-  pub full : length here.stations ≡ 64
-  pub known : takers ≡ takers_of here.config.k here.stations
-  pub holds : HoldReceivers AnySender here.config.k (root_of here.config) takers (root_reports here.config here.stations) here.boxes rows z
+use Rattle.mailbox.proofs.FormAfter.{length-made, applied_is, next_formed}
 
 -- who takes a message, where station j is written anew
 retaken-is : (k : ℕ) → k ≤ 64 → (stations : List Station) → length stations ≡ 64 → (j : ℕ) → j < k → (s : Station)
@@ -73,100 +63,75 @@ made-is net s M =
     ∙ ap (λ (x : Station). record { config = net.config; stations = set net.stations s.receiver x; boxes = boxes }) M.next-is
     ∙ sym (applied_is net s)
 
-module _ {first : Net} {draws : List ℕ} {here : Net} {takers : Takers} {rows : List ℕ} {z : Sizes} {made : ℕ}
-    (G : Going first draws here takers rows z made) where
-  formed : well_formed here ≡ true
-  formed = G.running.formed
-
+-- a net whose steps are listed, in form
+module _ {here : Net} {l : Listing} (L : Lists here l) (formed : well_formed here ≡ true) where
   few : here.config.k ≤ 64
   few = k_most here formed
 
-  fills : Filled rules here rows z
-  fills = filled here few (rw G.known at G.holds)
+  fills : Filled rules here l.rows l.sizes
+  fills = filled here few (rw L.known at L.holds)
 
-  pub ends_used : length draws ≤ made → {c : ℕ} → c ≡ total_of z
-      → run_on rules first draws ≡ record { number = 0; steps = made; rest = eqb c 0; net = here }
-  ends_used h e = used_up_with rules G.running h (e ∙ total-is rules here fills (omega arith))
-
-  -- t is what the code has read of the net, and p what it has drawn
+  -- t is what the code has read of the net
   module _ {t : Config} (told : t ≡ here.config) where
+    pub picks : (d : ℕ) {p : Option Step} → p ≡ picked_by_size l.rows l.sizes t.k d → p ≡ picked (listed rules here) d
+    picks d e = of_list rules here fills (omega arith) d (e ∙ ap (λ (u : Config). picked_by_size l.rows l.sizes u.k d) told)
+
     pub root-low : root_of t < 64
     root-low = rw told (root-placed here formed)
 
-    module _ (h : made < length draws) {p : Option Step} (e : p ≡ picked_by_size rows z t.k (get_or draws made 0)) where
-      picks : p ≡ picked (listed rules here) (get_or draws made 0)
-      picks = of_list rules here fills (omega arith) _ (e ∙ ap (λ (u : Config). picked_by_size rows z u.k (get_or draws made 0)) told)
+    -- s is a step that is allowed, next its receiver after it, and there the net
+    module _ (s : Step) (may : allowed rules here s ≡ true) where
+      bounds : Bounds rules here s
+      bounds = range_bounds rules here s (allowed_parts rules here s may).0
 
-      pub ends_at-rest : p ≡ None → run_on rules first draws ≡ record { number = 0; steps = made; rest = true; net = here }
-      ends_at-rest q = at-rest_with rules G.running h picks q
+      pub both_low : (t.k ≤ 64) × ((s.sender < t.k) × (s.receiver < t.k))
+      both_low = rw told (few, (bounds.sender-low, bounds.receiver-low))
 
-      module _ {s : Step} (q : p ≡ Some s) where
-        may : allowed rules here s ≡ true
-        may = drawn_allowed rules here _ picks q
+      module _ {next : Station} {there : Net} (M : Made here s next there) where
+        abbrev placed : List Station
+        placed = set here.stations s.receiver next
 
-        bounds : Bounds rules here s
-        bounds = range_bounds rules here s (allowed_parts rules here s may).0
+        abbrev boxes : List ℕ
+        boxes = boxes_made here.config here.boxes s (station here s.receiver)
 
-        pub both_low : (t.k ≤ 64) × ((s.sender < t.k) × (s.receiver < t.k))
-        both_low = rw told (few, (bounds.sender-low, bounds.receiver-low))
+        same_config : there.config ≡ here.config
+        same_config = ap (λ (n : Net). n.config) M.after_is
 
-        pub receives : ((s.sender < 64) × ((s.receiver < 64) × ((station here s.receiver).parent < 64)))
-            × ((bounded here.config (station here s.receiver).held ≡ true)
-            × (s.kind ≡ delivery
-            → mailbox_bounded here.config (box_at here.boxes s.sender s.receiver) (brought_at here.config here.boxes s.sender s.receiver) ≡ true))
-        receives = step_receives here s formed may
+        same-boxes : there.boxes ≡ boxes
+        same-boxes = ap (λ (n : Net). n.boxes) M.after_is
 
-        module _ {next : Station} {there : Net} (M : Made here s next there) where
-          abbrev placed : List Station
-          placed = set here.stations s.receiver next
+        same-stations : there.stations ≡ placed
+        same-stations = ap (λ (n : Net). n.stations) M.after_is
 
-          abbrev boxes : List ℕ
-          boxes = boxes_made here.config here.boxes s (station here s.receiver)
+        pub decides : well_formed there ≡ bounded t next.held
+        decides =
+            next_formed here s L.long formed may (made-is here s M)
+            ∙ ap₂ (λ (u : Config) (x : Station). bounded u x.held) (same_config ∙ sym told)
+            (ap (λ (l : List Station). station_at l s.receiver) same-stations
+            ∙ get_or-set_same here.stations s.receiver next no_station (omega (arith, L.full, few, bounds.receiver-low)))
 
-          same_config : there.config ≡ here.config
-          same_config = ap (λ (n : Net). n.config) M.after_is
+        module _ {reports : Bool} (g : reports ≡ root_reports t there.stations) where
+          -- the rows as `follow` asks for them
+          pub others-held : HoldReceivers (Others s) t.k (root_of t) l.takers reports there.boxes l.rows l.sizes
+          others-held =
+              let held = others_hold here.config l.takers here.stations here.boxes s (station here s.receiver) next few
+              bounds.sender-low bounds.receiver-low L.holds in
+              let read : root_reports here.config placed ≡ reports = ap₂ root_reports (sym told) (sym same-stations) ∙ sym g in
+              subst (λ (m : List ℕ). HoldReceivers (Others s) t.k (root_of t) l.takers reports m l.rows l.sizes) (sym same-boxes)
+              (subst (λ (u : Config). HoldReceivers (Others s) u.k (root_of u) l.takers reports boxes l.rows l.sizes) (sym told)
+              (subst (λ (b : Bool). HoldReceivers (Others s) here.config.k (root_of here.config) l.takers b boxes l.rows l.sizes) read held))
 
-          same-boxes : there.boxes ≡ boxes
-          same-boxes = ap (λ (n : Net). n.boxes) M.after_is
-
-          same-stations : there.stations ≡ placed
-          same-stations = ap (λ (n : Net). n.stations) M.after_is
-
-          decides : well_formed there ≡ bounded t next.held
-          decides =
-              next_formed here s G.long formed may (made-is here s M)
-              ∙ ap₂ (λ (u : Config) (x : Station). bounded u x.held) (same_config ∙ sym told)
-              (ap (λ (l : List Station). station_at l s.receiver) same-stations
-              ∙ get_or-set_same here.stations s.receiver next no_station (omega (arith, G.full, few, bounds.receiver-low)))
-
-          pub ends_outside : bounded t next.held ≡ false
-              → run_on rules first draws ≡ record { number = number_of OutOfForm; steps = made + 1; rest = false; net = there }
-          ends_outside b = unformed_with rules G.running h picks q (made-is here s M) (decides ∙ b)
-
-          module _ {reports : Bool} (g : reports ≡ root_reports t there.stations) where
-            -- the rows as `follow` asks for them
-            pub others-held : HoldReceivers (Others s) t.k (root_of t) takers reports there.boxes rows z
-            others-held =
-                let held = others_hold here.config takers here.stations here.boxes s (station here s.receiver) next few
-                bounds.sender-low bounds.receiver-low G.holds in
-                let read : root_reports here.config placed ≡ reports = ap₂ root_reports (sym told) (sym same-stations) ∙ sym g in
-                subst (λ (l : List ℕ). HoldReceivers (Others s) t.k (root_of t) takers reports l rows z) (sym same-boxes)
-                (subst (λ (u : Config). HoldReceivers (Others s) u.k (root_of u) takers reports boxes rows z) (sym told)
-                (subst (λ (b : Bool). HoldReceivers (Others s) here.config.k (root_of here.config) takers b boxes rows z) read held))
-
-            pub goes_further : {takers' : Takers} {rows' : List ℕ} {z' : Sizes} → takers' ≡ retaken s.receiver next takers
-                → bounded t next.held ≡ true
-                → HoldReceivers AnySender t.k (root_of t) takers' reports there.boxes rows' z'
-                → Going first draws there takers' rows' z' (made + 1)
-            goes_further {takers' = takers'} w b H =
-                record {
-                  running = goes_on_with rules G.running h picks q (made-is here s M) (decides ∙ b);
-                  long = ap (λ (l : List ℕ). length l) same-boxes ∙ length-made here.config here.boxes s _ ∙ G.long;
-                  full = ap (λ (l : List Station). length l) same-stations ∙ length-set here.stations _ _ ∙ G.full;
-                  known =
-                      w
-                      ∙ ap (retaken s.receiver next) G.known
-                      ∙ retaken-is here.config.k few here.stations G.full s.receiver bounds.receiver-low next
-                      ∙ sym (ap (λ (n : Net). takers_of n.config.k n.stations) M.after_is);
-                  holds = held-told AnySender t takers' reports there.stations there.boxes (told ∙ sym same_config) g H;
-                }
+          pub lists_further : {takers' : Takers} {rows' : List ℕ} {z' : Sizes} → takers' ≡ retaken s.receiver next l.takers
+              → HoldReceivers AnySender t.k (root_of t) takers' reports there.boxes rows' z'
+              → Lists there (record { takers = takers'; rows = rows'; sizes = z' })
+          lists_further {takers' = takers'} w H =
+              record {
+                long = ap (λ (m : List ℕ). length m) same-boxes ∙ length-made here.config here.boxes s _ ∙ L.long;
+                full = ap (λ (m : List Station). length m) same-stations ∙ length-set here.stations _ _ ∙ L.full;
+                known =
+                    w
+                    ∙ ap (retaken s.receiver next) L.known
+                    ∙ retaken-is here.config.k few here.stations L.full s.receiver bounds.receiver-low next
+                    ∙ sym (ap (λ (n : Net). takers_of n.config.k n.stations) M.after_is);
+                holds = held-told AnySender t takers' reports there.stations there.boxes (told ∙ sym same_config) g H;
+              }

@@ -16,12 +16,14 @@ ghost use Rattle.mailbox.specs.Opening.{mailbox_opening};
 ghost use Rattle.mailbox.specs.Internal.Receivers.{Made};
 
 use aggregate::Config;
+use kind::Mailing;
 use linemap::{FreshFault, Map};
 use refusal::Refusal;
-use schedule::{Ran, Step};
+use schedule::{Ran, Step, calls};
 use station::Station;
 
 mod delivery;
+mod kind;
 mod listing;
 
 // The kinds of step; they are numbered 1 to KINDS.
@@ -133,20 +135,7 @@ pub fn step(line: &mut [u64; 705], boxes: &mut [u64; 36992], step: Step) -> Resu
     ensures outcome { step_outcome_of result (net_of line.new boxes.new) ≡ step_on rules (net_of line.old boxes.old) step }
     ensures spare { spare_in line.new ≡ spare_in line.old }
 {
-    if !is_well_formed(line, boxes) {
-        return Err(Refusal::OutOfForm);
-    }
-    let t = stations::config_in(line);
-    if !delivery::is_in_range(t, step) {
-        return Err(Refusal::OutOfRange);
-    }
-    let receiver = stations::load(line, step.receiver);
-    let content = mail::box_at(boxes, step.sender, step.receiver);
-    if !delivery::may_step(step, receiver, content) {
-        return Err(Refusal::NotAllowed);
-    }
-    let next = make(line, boxes, t, step);
-    Ok(step)
+    calls::step::<Mailing>(line, boxes, step)
 }
 
 // The step that a draw picks, made: refused by 11, or by 14 where no step is allowed.
@@ -154,50 +143,13 @@ pub fn draw(line: &mut [u64; 705], boxes: &mut [u64; 36992], d: u16) -> Result<S
     ensures outcome { step_outcome_of result (net_of line.new boxes.new) ≡ draw_on rules (net_of line.old boxes.old) d }
     ensures spare { spare_in line.new ≡ spare_in line.old }
 {
-    if !is_well_formed(line, boxes) {
-        return Err(Refusal::OutOfForm);
-    }
-    let t = stations::config_in(line);
-    let takers = listing::find_takers(line, t.k);
-    let reports = listing::root_reports(line, t);
-    let mut rows = [0u64; 256];
-    let sizes = listing::fill(&mut rows, t, takers, reports, boxes);
-    let step = schedule::rows::pick(&rows, sizes, t.k, d).ok_or(Refusal::NothingAllowed)?;
-    let next = make(line, boxes, t, step);
-    Ok(step)
+    calls::draw::<Mailing>(line, boxes, d)
 }
 
-// The steps that the draws pick, one after the other, until they are used up, one is refused, or the form is left. A draw's place among
-// them is the number of steps made before it. The form is tested once: after that, only what the receiver has gathered can break it. Who
-// takes a message is kept, and the rows follow each step.
+// The steps that the draws pick, one after the other, until they are used up, one is refused, or the form is left.
 pub fn run(line: &mut [u64; 705], boxes: &mut [u64; 36992], draws: &[u16]) -> Ran
     ensures outcome { run_outcome_of result (net_of line.new boxes.new) ≡ run_on rules (net_of line.old boxes.old) draws.now }
     ensures spare { spare_in line.new ≡ spare_in line.old }
 {
-    if !is_well_formed(line, boxes) {
-        return schedule::stop_outside(0);
-    }
-    let first = stations::config_in(line);
-    let mut takers = listing::find_takers(line, first.k);
-    let mut reports = listing::root_reports(line, first);
-    let mut rows = [0u64; 256];
-    let mut sizes = listing::fill(&mut rows, first, takers, reports, boxes);
-    for (made, d) in draws.iter().enumerate() {
-        let t = stations::config_in(line);
-        let drawn = schedule::rows::pick(&rows, sizes, t.k, *d);
-        let Some(step) = drawn else {
-            return schedule::stop(made, true);
-        };
-        let next = make(line, boxes, t, step);
-        let held = next.held;
-        if !aggregate::is_bounded(t, held) {
-            return schedule::stop_outside(made + 1);
-        }
-        reports = listing::root_reports(line, t);
-        let old = takers;
-        takers = listing::retake(old, step.receiver, next);
-        sizes = listing::follow(&mut rows, sizes, t, old, takers, reports, boxes, step);
-    }
-    let c = schedule::rows::total(sizes);
-    schedule::stop(draws.len(), c == 0)
+    calls::run::<Mailing>(line, boxes, draws)
 }

@@ -1,10 +1,9 @@
--- The loop of a run, as the code has it: what every station may send, who is in which state, and the rows are known of the net reached. A step
--- changes two stations, one after the other. Assumes nothing.
-use Rattle.std.specs.Prelude.{Option, Some, None}
+-- A step of a net whose steps are listed, as the code makes it: it changes two stations, one after the other, and what every station may send,
+-- who is in which state, and the rows are known of the net after it. Assumes nothing.
 use mathlib.Core.Path.{◌≡◌, sym, ◌∙◌, ap, ap₂, subst}
-use mathlib.Core.Bool.{true, false}
+use mathlib.Core.Bool.{true}
 use mathlib.Core.List.{List}
-use Prim.Native.Nat.{ℕ, ◌+◌, ◌^◌, ◌≤◌, ◌<◌}
+use Prim.Native.Nat.{ℕ, ◌^◌, ◌≤◌, ◌<◌}
 use native.Mathlib.Nat.{lt_of_lt_of_le}
 use native.Mathlib.Omega.{arith}
 use lib.ListN.{length, get_or, set, length-set}
@@ -12,8 +11,6 @@ use lib.Seq.{set-set, get_or-set_same, get_or-set_other}
 use lib.Dec.{eqb}
 use lib.Pow.{pow_mono}
 use borrow.Author.Tests.{eqb-true}
-use Rattle.refusal.specs.declared.Refusal.TheVariants.{OutOfForm}
-use Rattle.refusal.specs.Refusal.{number_of}
 use Rattle.finite.proofs.Cases.{by_bool, by_eq}
 use Rattle.finite.proofs.Lists.{set_own}
 use Rattle.bitset.specs.Set.{put}
@@ -21,7 +18,7 @@ use Rattle.bitset.proofs.Selected.{set-lt}
 use Rattle.bitset.proofs.Unions.{put-set}
 use Rattle.aggregate.specs.declared.Config.{Config}
 use Rattle.aggregate.specs.declared.Aggregate.{Aggregate}
-use Rattle.aggregate.specs.Aggregate.{root_of, joinable, clipped}
+use Rattle.aggregate.specs.Aggregate.{clipped}
 use Rattle.station.specs.declared.Station.{Station}
 use Rattle.station.specs.Events.{asleep, active}
 use Rattle.stations.specs.Stations.{no_station}
@@ -30,22 +27,20 @@ use Rattle.schedule.specs.declared.Step.{Step}
 use Rattle.schedule.specs.declared.rows.Sizes.{Sizes}
 use Rattle.schedule.specs.Rules.{allowed}
 use Rattle.schedule.specs.Rows.{row_at}
-use Rattle.schedule.specs.Listing.{listed}
 use Rattle.schedule.specs.Internal.Rows.{Filled, Others}
-use Rattle.schedule.specs.Draws.{picked, run_on}
 use Rattle.schedule.proofs.Answers.{allowed_parts}
 use Rattle.schedule.proofs.Listing.{range_bounds, Bounds}
-use Rattle.schedule.proofs.Drawing.{drawn_allowed}
-use Rattle.schedule.proofs.Running.{Running, goes_on_with, unformed_with, at-rest_with}
 use Rattle.rendezvous.specs.declared.listing.States.{States}
 use Rattle.rendezvous.specs.declared.listing.Sends.{Sends}
+use Rattle.rendezvous.specs.declared.kind.Listing.{Listing}
+use Rattle.rendezvous.specs.Internal.Listings.{Lists}
 use Rattle.rendezvous.specs.Net.{Net, net_in, station, well_formed, with_stations, with_one}
 use Rattle.rendezvous.specs.Figure.{wake, pass, answer, assigned}
 use Rattle.rendezvous.specs.Telling.{tell, is_tell, known, hears_total, told_by}
 use Rattle.rendezvous.specs.Internal.Receivers.{in_state, states_of, restated, sends_of, kept_at, takers_in}
 use Rattle.rendezvous.specs.Internal.Receivers.{Read, Agree, Renewed, AreSends, HoldTakers, HoldSome, sent_by, received_by, kept_by, with_made, made_of, keeps_form}
 use Rattle.rendezvous.specs.Rules.{rules}
-use Rattle.rendezvous.proofs.Laws.{k_most, root_most, sums-joinable}
+use Rattle.rendezvous.proofs.Laws.{k_most, root_most}
 use Rattle.rendezvous.proofs.RowSets.{rows_filled}
 use Rattle.rendezvous.proofs.Kept.{kept_one}
 use Rattle.rendezvous.proofs.Following.{states_agree, kept_others}
@@ -135,104 +130,85 @@ set_anew {A = A} l i j a b d h k =
     let at_i : get_or m i d ≡ a = get_or-set_other (set l i a) j i b d n ∙ get_or-set_same l i a d h in
     rw (at_i, at_j))
 
-pub record Going (first : Net) (draws : List ℕ) (here : Net) (states : States) (kept : List Sends) (rows : List ℕ) (z : Sizes) (made : ℕ) : Type 0 where
-  pub running : Running rules first draws here made
-  pub known : Known here kept states
-  pub held : HoldTakers here.config.k states (kept_at kept) rows z
-
-module _ {first : Net} {draws : List ℕ} {here : Net} {states : States} {kept : List Sends} {rows : List ℕ} {z : Sizes} {made : ℕ}
-    (G : Going first draws here states kept rows z made) where
-  pub formed : well_formed here ≡ true
-  formed = G.running.formed
-
-  pub few : here.config.k ≤ 64
+-- a net whose steps are listed, in form
+module _ {here : Net} {l : Listing} (L : Lists here l) (formed : well_formed here ≡ true) where
+  few : here.config.k ≤ 64
   few = k_most here formed
 
-  pub filled : Filled rules here rows z
-  filled = rows_filled here (kept_at kept) few G.known.sends_are.word G.known.states_are G.held
+  pub filled : Filled rules here l.rows l.sizes
+  filled = rows_filled here (kept_at l.kept) few L.sends_are.word L.states_are L.held
 
-  small : (kind s : ℕ) → 1 ≤ kind → kind ≤ 4 → s < here.config.k → row_at rows kind s < 2 ^ 64
-  small kind s h l m = rw (filled.are.row kind s h l m) (lt_of_lt_of_le (set-lt here.config.k _) (pow_mono few))
+  small : (kind s : ℕ) → 1 ≤ kind → kind ≤ 4 → s < here.config.k → row_at l.rows kind s < 2 ^ 64
+  small kind s h low m = rw (filled.are.row kind s h low m) (lt_of_lt_of_le (set-lt here.config.k _) (pow_mono few))
 
-  -- t is what the code has read of the net, and p what it has drawn
-  module _ {t : Config} (told : t ≡ here.config) (h : made < length draws) {p : Option Step} (e : p ≡ picked (listed rules here) (get_or draws made 0)) where
-    pub rests : p ≡ None → run_on rules first draws ≡ record { number = 0; steps = made; rest = true; net = here }
-    rests q = at-rest_with rules G.running h e q
+  -- t is what the code has read of the net, and s a step that is allowed
+  module _ {t : Config} (told : t ≡ here.config) (s : Step) (may : allowed rules here s ≡ true) where
+    bounds : Bounds rules here s
+    bounds = range_bounds rules here s (allowed_parts rules here s may).0
 
-    module _ {s : Step} (q : p ≡ Some s) where
-      may : allowed rules here s ≡ true
-      may = drawn_allowed rules here _ e q
+    pub both_low : (t.k ≤ 64) × ((s.sender < t.k) × (s.receiver < t.k))
+    both_low = rw told (few, (bounds.sender-low, bounds.receiver-low))
 
-      bounds : Bounds rules here s
-      bounds = range_bounds rules here s (allowed_parts rules here s may).0
+    sender-low : s.sender < 64
+    sender-low = omega (arith, few, bounds.sender-low)
 
-      pub both_low : (t.k ≤ 64) × ((s.sender < t.k) × (s.receiver < t.k))
-      both_low = rw told (few, (bounds.sender-low, bounds.receiver-low))
+    receiver-low : s.receiver < 64
+    receiver-low = omega (arith, few, bounds.receiver-low)
 
-      pub sender-low : s.sender < 64
-      sender-low = omega (arith, few, bounds.sender-low)
+    -- the net after it, and its two stations as they are there
+    module _ {next : Net} (M : next ≡ made_of here s) where
+      abbrev sender : Station
+      sender = station next s.sender
 
-      pub receiver-low : s.receiver < 64
-      receiver-low = omega (arith, few, bounds.receiver-low)
+      abbrev receiver : Station
+      receiver = station next s.receiver
 
-      pub joins : joinable here.config (station here s.receiver).held (station here s.sender).held ≡ true
-      joins = sums-joinable here formed s (allowed_parts rules here s may).0
+      pub after : next ≡ rules.apply here s
+      after = M ∙ made-is here s may
 
-      -- the net after it, and its two stations as they are there
-      module _ {next : Net} (M : next ≡ made_of here s) where
-        abbrev sender : Station
-        sender = station next s.sender
+      next-is : next ≡ with_made here s sender receiver
+      next-is =
+          M
+          ∙ ap (λ (l : List Station). record { config = here.config; stations = l; carrying = here.carrying; kept = kept_by here s })
+          (sym (set_anew here.stations s.sender s.receiver _ _ no_station (omega (arith, L.full, sender-low)) (omega (arith, L.full, receiver-low))))
+          ∙ ap (λ (n : Net). with_made here s (station n s.sender) (station n s.receiver)) (sym M)
 
-        abbrev receiver : Station
-        receiver = station next s.receiver
+      pub decides : well_formed next ≡ keeps_form t s.kind receiver
+      decides = next_formed here s formed may after ∙ ap (λ (u : Config). keeps_form u s.kind receiver) (sym told)
 
-        after : next ≡ rules.apply here s
-        after = M ∙ made-is here s may
+      module _ {kept₁ kept₂ : List Sends} {states₁ states₂ : States} (x : Renewed t s.sender sender l.kept l.states kept₁ states₁)
+          (y : Renewed t s.receiver receiver kept₁ states₁ kept₂ states₂) where
+        pub agree : Agree s l.states states₂
+        agree = states_agree s sender-low receiver-low t sender receiver l.kept l.states x y
 
-        next-is : next ≡ with_made here s sender receiver
-        next-is =
-            M
-            ∙ ap (λ (l : List Station). record { config = here.config; stations = l; carrying = here.carrying; kept = kept_by here s })
-            (sym (set_anew here.stations s.sender s.receiver _ _ no_station (omega (arith, G.known.full, sender-low)) (omega (arith, G.known.full, receiver-low))))
-            ∙ ap (λ (n : Net). with_made here s (station n s.sender) (station n s.receiver)) (sym M)
+        pub others_hold : HoldSome (Others s) t.k l.states (kept_at kept₂) l.rows l.sizes
+        others_hold =
+            let same = kept_others s sender-low receiver-low t sender receiver l.kept l.states x y in
+            let hold : HoldSome (Others s) here.config.k l.states (kept_at kept₂) l.rows l.sizes = record {
+              hold = record {
+                sized = L.held.sized;
+                small = small;
+                row = λ kind i g low m o. L.held.row kind i g low m
+                    ∙ ap (λ (w : Sends). takers_in kind w l.states) (sym (same i o));
+                sizes = L.held.sizes;
+              };
+            } in
+            subst (λ (u : Config). HoldSome (Others s) u.k l.states (kept_at kept₂) l.rows l.sizes) (sym told) hold
 
-        decides : well_formed next ≡ keeps_form t s.kind receiver
-        decides = next_formed here s formed may after ∙ ap (λ (u : Config). keeps_form u s.kind receiver) (sym told)
-
-        pub ends_outside : keeps_form t s.kind receiver ≡ false
-            → run_on rules first draws ≡ record { number = number_of OutOfForm; steps = made + 1; rest = false; net = next }
-        ends_outside b = unformed_with rules G.running h e q after (decides ∙ b)
-
-        module _ {kept₁ kept₂ : List Sends} {states₁ states₂ : States} (x : Renewed t s.sender sender kept states kept₁ states₁)
-            (y : Renewed t s.receiver receiver kept₁ states₁ kept₂ states₂) where
-          pub agree : Agree s states states₂
-          agree = states_agree s sender-low receiver-low t sender receiver kept states x y
-
-          pub others_hold : HoldSome (Others s) t.k states (kept_at kept₂) rows z
-          others_hold =
-              let same = kept_others s sender-low receiver-low t sender receiver kept states x y in
-              let hold : HoldSome (Others s) here.config.k states (kept_at kept₂) rows z = record {
-                hold = record {
-                  sized = G.held.sized;
-                  small = small;
-                  row = λ kind i g l m o. G.held.row kind i g l m
-                      ∙ ap (λ (w : Sends). takers_in kind w states) (sym (same i o));
-                  sizes = G.held.sizes;
-                };
-              } in
-              subst (λ (u : Config). HoldSome (Others s) u.k states (kept_at kept₂) rows z) (sym told) hold
-
-          pub goes_further : keeps_form t s.kind receiver ≡ true → {rows₂ : List ℕ} {z₂ : Sizes}
-              → HoldTakers t.k states₂ (kept_at kept₂) rows₂ z₂ → Going first draws next states₂ kept₂ rows₂ z₂ (made + 1)
-          goes_further b H =
-              let first-in : Renewed here.config s.sender sender kept states kept₁ states₁ =
-              (x.0 ∙ ap (λ (u : Config). set kept s.sender (sends_of u s.sender sender)) told, x.1) in
-              let then-in : Renewed here.config s.receiver receiver kept₁ states₁ kept₂ states₂ =
-              (y.0 ∙ ap (λ (u : Config). set kept₁ s.receiver (sends_of u s.receiver receiver)) told, y.1) in
-              let middle = known-one here few G.known.full s.sender bounds.sender-low sender G.known first-in in
-              let last = known-one (with_one here s.sender sender) few middle.full s.receiver bounds.receiver-low receiver middle then-in in
-              record {
-                running = goes_on_with rules G.running h e q after (decides ∙ b);
-                known = subst (λ (n : Net). Known n kept₂ states₂) (sym next-is) (known_as _ (kept_by here s) last);
-                held = held-told (told ∙ sym (ap (λ (n : Net). n.config) M)) H;
-              }
+        pub lists_further : {rows₂ : List ℕ} {z₂ : Sizes} → HoldTakers t.k states₂ (kept_at kept₂) rows₂ z₂
+            → Lists next (record { kept = kept₂; states = states₂; rows = rows₂; sizes = z₂ })
+        lists_further H =
+            let first-in : Renewed here.config s.sender sender l.kept l.states kept₁ states₁ =
+            (x.0 ∙ ap (λ (u : Config). set l.kept s.sender (sends_of u s.sender sender)) told, x.1) in
+            let then-in : Renewed here.config s.receiver receiver kept₁ states₁ kept₂ states₂ =
+            (y.0 ∙ ap (λ (u : Config). set kept₁ s.receiver (sends_of u s.receiver receiver)) told, y.1) in
+            let known : Known here l.kept l.states = record { sends_are = L.sends_are; states_are = L.states_are; full = L.full } in
+            let middle = known-one here few L.full s.sender bounds.sender-low sender known first-in in
+            let last = known-one (with_one here s.sender sender) few middle.full s.receiver bounds.receiver-low receiver middle then-in in
+            let there = subst (λ (n : Net). Known n kept₂ states₂) (sym next-is) (known_as _ (kept_by here s) last) in
+            record {
+              sends_are = there.sends_are;
+              states_are = there.states_are;
+              full = there.full;
+              held = held-told (told ∙ sym (ap (λ (n : Net). n.config) M)) H;
+            }

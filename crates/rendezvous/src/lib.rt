@@ -9,12 +9,14 @@ ghost use Rattle.rendezvous.specs.Net.{net_in, beside_in};
 ghost use Rattle.rendezvous.specs.Rules.{rules};
 ghost use Rattle.rendezvous.specs.Opening.{rendezvous_opening};
 
+use kind::Meeting;
 use linemap::{FreshFault, Map};
 use refusal::Refusal;
-use schedule::{Ran, Step};
+use schedule::{Ran, Step, calls};
 
 mod figure;
 mod form;
+mod kind;
 mod listing;
 mod telling;
 
@@ -61,18 +63,7 @@ pub fn step(net: &mut [u64; 705], totals: &mut [u64; 576], step: Step) -> Result
     ensures outcome { step_outcome_of result (net_in net.new totals.new) ≡ step_on rules (net_in net.old totals.old) step }
     ensures beside { beside_in net.new ≡ beside_in net.old }
 {
-    if !is_well_formed(net, totals) {
-        return Err(Refusal::OutOfForm);
-    }
-    let t = stations::config_in(net);
-    if !figure::is_in_range(t, form::carrying_in(net), step) {
-        return Err(Refusal::OutOfRange);
-    }
-    if !figure::is_allowed(net, t, step) {
-        return Err(Refusal::NotAllowed);
-    }
-    figure::make(net, totals, t, step);
-    Ok(step)
+    calls::step::<Meeting>(net, totals, step)
 }
 
 // The step that a draw picks, made: refused by 11, or by 14 where no step is allowed.
@@ -80,52 +71,13 @@ pub fn draw(net: &mut [u64; 705], totals: &mut [u64; 576], d: u16) -> Result<Ste
     ensures outcome { step_outcome_of result (net_in net.new totals.new) ≡ draw_on rules (net_in net.old totals.old) d }
     ensures beside { beside_in net.new ≡ beside_in net.old }
 {
-    let mut kept = [listing::NO_SENDS; 64];
-    let states = listing::survey(net, totals, &mut kept).ok_or(Refusal::OutOfForm)?;
-    let t = stations::config_in(net);
-    let mut rows = [0u64; 256];
-    let sizes = listing::fill(&mut rows, t.k, &kept, states);
-    let step = listing::choose(net, &rows, sizes, t, d).ok_or(Refusal::NothingAllowed)?;
-    figure::make(net, totals, t, step);
-    Ok(step)
+    calls::draw::<Meeting>(net, totals, d)
 }
 
-// The steps that the draws pick, one after the other, until they are used up, one is refused, or the form is left. A draw's place among
-// them is the number of steps made before it. The form is tested once: after that, only the receiver can break it. What
-// the stations may send is kept, and only that of the two that a step changes is found anew; the rows follow each step. A draw chooses
-// as in `choose`, which is not called for it: a net without carrying back pays one test.
+// The steps that the draws pick, one after the other, until they are used up, one is refused, or the form is left.
 pub fn run(net: &mut [u64; 705], totals: &mut [u64; 576], draws: &[u16]) -> Ran
     ensures outcome { run_outcome_of result (net_in net.new totals.new) ≡ run_on rules (net_in net.old totals.old) draws.now }
     ensures beside { beside_in net.new ≡ beside_in net.old }
 {
-    let mut kept = [listing::NO_SENDS; 64];
-    let found = listing::survey(net, totals, &mut kept);
-    let Some(mut states) = found else {
-        return schedule::stop_outside(0);
-    };
-    let k = stations::config_in(net).k;
-    let mut rows = [0u64; 256];
-    let mut sizes = listing::fill(&mut rows, k, &kept, states);
-    for (made, d) in draws.iter().enumerate() {
-        let t = stations::config_in(net);
-        let drawn = if form::carrying_in(net) == CARRYING {
-            listing::choose_beside(net, &rows, sizes, t, *d)
-        } else {
-            schedule::rows::pick(&rows, sizes, t.k, *d)
-        };
-        let Some(step) = drawn else {
-            return schedule::stop(made, true);
-        };
-        figure::make(net, totals, t, step);
-        let old = states;
-        states = listing::renew(&mut kept, states, net, t, step.sender);
-        states = listing::renew(&mut kept, states, net, t, step.receiver);
-        if !form::keeps_form(net, t, step) {
-            return schedule::stop_outside(made + 1);
-        }
-        sizes = listing::follow(&mut rows, sizes, t.k, &kept, old, states, step);
-    }
-    let t = stations::config_in(net);
-    let rest = listing::is_at_rest(net, &rows, sizes, t);
-    schedule::stop(draws.len(), rest)
+    calls::run::<Meeting>(net, totals, draws)
 }

@@ -252,12 +252,3 @@ pub(crate) fn choose(
     }
     schedule::rows::pick(rows, sizes, t.k, d)
 }
-
-// Whether the net is quiescent (01: at rest): no step is allowed that a draw could pick.
-pub(crate) fn is_at_rest(net: &[u64; 705], rows: &[u64; 256], sizes: Sizes, t: Config) -> bool
-    requires { Read net.now t }
-    ensures { (kept : List ℕ) → Filled rules (net_in net.now kept) rows.now sizes
-        → result ≡ eqb (length (listed rules (net_in net.now kept))) 0 }
-{
-    choose(net, rows, sizes, t, 0).is_none()
-}

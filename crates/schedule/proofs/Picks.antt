@@ -1,5 +1,6 @@
 -- The step that a draw picks, and the entry of the list that it is: d mod c is below c. Assumes nothing.
-use Rattle.std.proofs.Common.{◌≡◌, ℕ, ◌%◌, ◌<◌, Bool, true, List, [], ◌∷◌, length, get_or, refl, ap, ◌∙◌, mod-lt, arith, Some, None}
+use Rattle.std.proofs.Common.{◌≡◌, ℕ, ◌%◌, ◌<◌, Bool, true, false, not, eqb, List, [], ◌∷◌, length, get_or, refl, sym, ap, ◌∙◌, ne_eqb, mod-lt, arith, Some, None}
+use Rattle.std.specs.Option.{is_some}
 use Rattle.schedule.specs.declared.Step.{Step}
 use Rattle.schedule.specs.Rows.{entry, step_found}
 use Rattle.schedule.specs.Draws.{picked}
@@ -19,6 +20,14 @@ pub some-picked : {s : Step} (l : List Step) (d : ℕ) → picked l d ≡ Some s
 unfolding picked
 some-picked [] d e z = absurd (let f : ◌≡◌ {A = ℕ} 0 1 = cc in omega arith)
 some-picked (t ∷ l) d e z = omega arith
+
+-- nothing is picked just where nothing is listed
+pub none_rests : (l : List Step) (d : ℕ) (none : Bool) → is_some (picked l d) ≡ not none → none ≡ eqb (length l) 0
+unfolding picked
+none_rests [] d true e = refl
+none_rests [] d false e = e
+none_rests (s ∷ l) d true e = e ∙ sym (ne_eqb (length (s ∷ l)) 0 (λ z. omega arith))
+none_rests (s ∷ l) d false e = sym (ne_eqb (length (s ∷ l)) 0 (λ z. omega arith))
 
 pub picked-entry : (l : List Step) (d : ℕ) → (length l ≡ 0 → ⊥) → step_found (entry l (d % length l)) ≡ picked l d
 unfolding picked

@@ -7,6 +7,7 @@ ghost use Rattle.refusal.specs.declared.Refusal.TheVariants.{OutOfForm};
 
 use refusal::Refusal;
 
+pub mod calls;
 pub mod rows;
 
 // A step of a net: its kind, counted from 1, its sender and its receiver.
