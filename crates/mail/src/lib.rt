@@ -1,8 +1,8 @@
 // The mailboxes of a net with mail (document 01, "Stations with mail"), in 36,992 words that the caller lends: for each sender the set of the
 // receivers to which a start waits (words 0 to 63), the set of those to which an answer waits (64 to 127), then the missing numbers of the
 // answers, a byte a class (those from s to r at 128 + s × 64 + r), then their sums, class by class (of class j at 4224 + 4096 × j + s × 64 + r).
-// A mailbox itself is an enum: what is read from one place and written to one. What an answer brings stands beside it: who may take what waits
-// is asked at every step, without a config, and nine more words would be read and copied each time.
+// A mailbox itself is an enum: what is read from one place and written to one. What an answer brings stands beside it: `box_at` tells what
+// waits without a config, as it promises, and how many words of an answer are read is told by one.
 #![tactic(auto)]
 
 ghost use Rattle.std.specs.Prelude.{◌≡◌, ◌<◌};

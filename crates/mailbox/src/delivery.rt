@@ -68,6 +68,7 @@ fn awaken(receiver: Station, from: u8) -> Station
 }
 
 // The receiver after it took what the mailbox between two stations holds: the words of an answer are read only where there is one.
+// No struct holds `places` and `sums`, here and below: the sums are in words that are lent, and a step, of which the places come, has no bounds.
 fn take(t: Config, boxes: &[u64; 36992], from: u8, to: u8, receiver: Station) -> Station
     requires places { (from < 64) × (to < 64) }
     requires sums { (bounded t receiver.held ≡ true) × (mailbox_bounded t (box_at boxes.now from to) (brought_at t boxes.now from to) ≡ true) }

@@ -74,3 +74,6 @@ pub cleared_all : {l : List Aggregate} → Cleared 64 l → l ≡ replicate 64 n
 cleared_all {l} C =
     ext_get_or absent l (replicate 64 nothing) (C.long ∙ sym (length-replicate 64 nothing))
     (λ i h. let low : i < 64 = omega (arith, C.long) in C.none i low ∙ sym (get_or-replicate 64 i nothing absent low))
+
+-- place by place, until all are cleared
+pub ruleset cleared = (cleared_none, cleared_next, cleared_all)

@@ -111,6 +111,9 @@ module _ (words : List ℕ) (long : length words ≡ 705) (t : Config) (byte : (
       ∙ bytes_up four t.k byte.0 3 ∙ bytes_up three t.classes byte.1 2 ∙ bytes_up two t.desk byte.2 1 ∙ bytes_up rest t.way byte.3 0 ∙ div-one rest)
       (tabulate_ext 64 _ _ (λ i l. ap (λ (x : ℕ). x / 2 ^ 24) (later_word i 10)))
 
+-- what `put_config` ensures of the words, part by part
+pub ruleset config_laws = (config_put, config_put_stations, config_put_spare)
+
 -- ---- a station written
 pub length-sums : (words : List ℕ) (at : ℕ) (v : Aggregate) (n : ℕ) → length (with_sums words at v n) ≡ length words
 unfolding with_sums

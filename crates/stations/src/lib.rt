@@ -55,11 +55,11 @@ fn fresh_station(t: Config, reading: Reading, neighbours: u64, i: u8) -> Station
         station::ASLEEP
     };
     Station {
-        held: held,
+        held,
         unstarted: neighbours,
         parent: root,
         waits: bitset::size(neighbours),
-        state: state,
+        state,
     }
 }
 
@@ -97,7 +97,7 @@ fn config_word(w: u64, t: Config) -> u64
 }
 
 // The words of a net opened with t.
-#[tactic(auto, using(crate::proofs::Words::config_put, crate::proofs::Words::config_put_stations, crate::proofs::Words::config_put_spare), unfolding(crate::specs::Words::with_config))]
+#[tactic(auto, using(crate::proofs::Words::config_laws), unfolding(crate::specs::Words::with_config))]
 pub fn put_config(words: &mut [u64; 705], t: Config)
     ensures words { words.new ≡ Words.with_config words.old t }
     ensures config { Words.config_in words.new ≡ t }
@@ -124,12 +124,10 @@ fn load_from(words: &[u64; 705], at: usize) -> Station
     requires { at + 11 ≤ 705 }
     ensures { result ≡ Words.station_from words.now at }
 {
-    let held = load_aggregate(words, at);
-    let unstarted = words[at + 9];
     let [parent, waits, state, ..] = words[at + 10].to_le_bytes();
     Station {
-        held,
-        unstarted,
+        held: load_aggregate(words, at),
+        unstarted: words[at + 9],
         parent,
         waits,
         state,
@@ -172,11 +170,9 @@ fn store_from(words: &mut [u64; 705], at: usize, s: Station)
     ensures words { words.new ≡ Words.with_station words.old at s }
     ensures fits { Fits s }
 {
-    let held = s.held;
-    let unstarted = s.unstarted;
     let w = fields_word(words[at + 10], s);
-    store_aggregate(words, at, held);
-    words[at + 9] = unstarted;
+    store_aggregate(words, at, s.held);
+    words[at + 9] = s.unstarted;
     words[at + 10] = w;
 }
 
@@ -214,7 +210,7 @@ pub fn store_kept(words: &mut [u64; 576], i: u8, v: Aggregate)
 }
 
 // Nobody keeps anything.
-#[tactic(auto, using(crate::proofs::Kept::cleared_none, crate::proofs::Kept::cleared_next, crate::proofs::Kept::cleared_all))]
+#[tactic(auto, using(crate::proofs::Kept::cleared))]
 pub fn clear_kept(words: &mut [u64; 576])
     ensures { Kept.kept_in words.new ≡ replicate 64 nothing }
 {
