@@ -1,5 +1,5 @@
-// The calls of every kind of net: a single step, a draw and a run.
-ghost use Rattle.std.specs.Prelude.{◌≡◌, true, false, Bool, List, ℕ, cond, Option, Some, None, IfSome};
+// The calls of every kind of net: a single step, a draw and a run (document 01, "Stations that meet" and "Stations with mail").
+ghost use Rattle.std.specs.Prelude.{◌≡◌, true, List, ℕ};
 ghost use Rattle.schedule.specs.Rules.{Rules, in_range, allowed};
 ghost use Rattle.schedule.specs.Outcome.{step_outcome_of, run_outcome_of};
 ghost use Rattle.schedule.specs.Draws.{picked, step_on, draw_on, run_on};
@@ -8,22 +8,24 @@ ghost use Rattle.schedule.specs.Listing.{listed};
 use crate::{Ran, Step};
 use refusal::Refusal;
 
-// A kind of net.
+// What a kind of net brings to its calls. What its functions require, the calls below prove: they are for these alone.
 pub trait Kind {
     // What is lent beside the words of the stations.
     type Beside;
 
-    // What is known of a net whose steps are listed.
+    // What is kept of a net whose steps are listed.
     type Listing: Copy;
 
     ghost Net: { Type 0 };
 
     ghost rules: { Rules Net };
 
+    // The net in what is lent, and what of the words no net has.
     ghost view: { List ℕ → Self.Beside → Net };
 
     ghost rest: { List ℕ → List ℕ };
 
+    // The listing is that of the net.
     ghost Lists: { Net → Self.Listing → Type 0 };
 
     fn is_well_formed(line: &[u64; 705], beside: &Self::Beside) -> bool
@@ -37,22 +39,39 @@ pub trait Kind {
         requires ranged { in_range rules (view line.now beside.now) step ≡ true }
         ensures { result ≡ rules.guard (view line.now beside.now) step };
 
-    // A listing to fill.
+    // An allowed step, made.
+    fn make(line: &mut [u64; 705], beside: &mut Self::Beside, step: Step)
+        requires formed { rules.well_formed (view line.old beside.old) ≡ true }
+        requires may { allowed rules (view line.old beside.old) step ≡ true }
+        ensures made { view line.new beside.new ≡ rules.apply (view line.old beside.old) step }
+        ensures rest { rest line.new ≡ rest line.old };
+
+    // A listing to fill. It is lent to be filled, as one that is handed back is copied: a run must not take that much stack.
     fn blank() -> Self::Listing;
 
-    // Lists the steps that a net allows: whether it is in form.
+    // Lists the steps that the net allows, and answers whether it is in form.
     fn list(line: &[u64; 705], beside: &Self::Beside, listing: &mut Self::Listing) -> bool
         ensures formed { result ≡ rules.well_formed (view line.now beside.now) }
         ensures lists { result ≡ true → Lists (view line.now beside.now) listing.new };
 
-    // The step that a draw picks of a listing.
-    fn pick(line: &[u64; 705], beside: &Self::Beside, listing: &Self::Listing, d: u16) -> Option<Step>
+    // The step that a draw picks of those listed.
+    fn pick(
+        line: &[u64; 705],
+        beside: &Self::Beside,
+        listing: &Self::Listing,
+        d: u16,
+    ) -> Option<Step>
         requires formed { rules.well_formed (view line.now beside.now) ≡ true }
         requires lists { Lists (view line.now beside.now) listing.now }
         ensures { result ≡ picked (listed rules (view line.now beside.now)) d };
 
-    // A step that is allowed, made, and the listing after it: whether the net is in form still.
-    fn advance(line: &mut [u64; 705], beside: &mut Self::Beside, listing: &mut Self::Listing, step: Step) -> bool
+    // An allowed step, made, the listing with it, and whether the net is in form still.
+    fn advance(
+        line: &mut [u64; 705],
+        beside: &mut Self::Beside,
+        listing: &mut Self::Listing,
+        step: Step,
+    ) -> bool
         requires formed { rules.well_formed (view line.old beside.old) ≡ true }
         requires lists { Lists (view line.old beside.old) listing.old }
         requires may { allowed rules (view line.old beside.old) step ≡ true }
@@ -60,16 +79,14 @@ pub trait Kind {
         ensures formed { result ≡ rules.well_formed (view line.new beside.new) }
         ensures lists { result ≡ true → Lists (view line.new beside.new) listing.new }
         ensures rest { rest line.new ≡ rest line.old };
-
-    fn make(line: &mut [u64; 705], beside: &mut Self::Beside, step: Step)
-        requires formed { rules.well_formed (view line.old beside.old) ≡ true }
-        requires may { allowed rules (view line.old beside.old) step ≡ true }
-        ensures made { view line.new beside.new ≡ rules.apply (view line.old beside.old) step }
-        ensures rest { rest line.new ≡ rest line.old };
 }
 
 // One step: refused by 11, 12 or 13, or made.
-pub fn step<K: Kind>(line: &mut [u64; 705], beside: &mut K::Beside, step: Step) -> Result<Step, Refusal>
+pub fn step<K: Kind>(
+    line: &mut [u64; 705],
+    beside: &mut K::Beside,
+    step: Step,
+) -> Result<Step, Refusal>
     ensures outcome { step_outcome_of result (K.view line.new beside.new) ≡ step_on K.rules (K.view line.old beside.old) step }
     ensures rest { K.rest line.new ≡ K.rest line.old }
 {
@@ -102,7 +119,8 @@ pub fn draw<K: Kind>(line: &mut [u64; 705], beside: &mut K::Beside, d: u16) -> R
     Ok(step)
 }
 
-// The steps that the draws pick, one after the other, until they are used up, one is refused, or the form is left.
+// The steps that the draws pick, one after the other, until they are used up, one is refused, or the form is left. A draw's place among them is
+// the number of steps made before it.
 pub fn run<K: Kind>(line: &mut [u64; 705], beside: &mut K::Beside, draws: &[u16]) -> Ran
     ensures outcome { run_outcome_of result (K.view line.new beside.new) ≡ run_on K.rules (K.view line.old beside.old) draws.now }
     ensures rest { K.rest line.new ≡ K.rest line.old }

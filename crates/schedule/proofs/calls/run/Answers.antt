@@ -26,7 +26,7 @@ pub returns-then-not-advance-clause-outcome : goal.returns-then-not-advance-clau
 returns-then-not-advance-clause-outcome g c =
     outcome_of c.stop_outside-then-not-advance.ensures _
     ∙ sym (unformed_with g.K.Kind.rules c.loop-made.invariant.0 c.loop-made-test.true c.pick.ensures c.in-Some.is c.advance.ensures.made
-      (sym c.advance.ensures.formed ∙ c.if-not-advance.true))
+    (sym c.advance.ensures.formed ∙ c.if-not-advance.true))
 
 pub loop-made-preserved : goal.loop-made-preserved
 loop-made-preserved g c = (

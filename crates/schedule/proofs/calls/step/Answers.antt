@@ -27,4 +27,4 @@ pub returns-clause-outcome : goal.returns-clause-outcome
 returns-clause-outcome g c =
     ap (step_made c.args.step) c.make.ensures.made
     ∙ sym (step-taken g.K.Kind.rules _ c.args.step (sym c.is_well_formed.ensures ∙ c.if-not-is_well_formed.false)
-      (sym c.is_in_range.ensures ∙ c.if-not-is_in_range.false) (sym c.is_allowed.ensures ∙ c.if-not-is_allowed.false))
+    (sym c.is_in_range.ensures ∙ c.if-not-is_in_range.false) (sym c.is_allowed.ensures ∙ c.if-not-is_allowed.false))
