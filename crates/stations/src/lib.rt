@@ -124,10 +124,12 @@ fn load_from(words: &[u64; 705], at: usize) -> Station
     requires { at + 11 ≤ 705 }
     ensures { result ≡ Words.station_from words.now at }
 {
+    let held = load_aggregate(words, at);
+    let unstarted = words[at + 9];
     let [parent, waits, state, ..] = words[at + 10].to_le_bytes();
     Station {
-        held: load_aggregate(words, at),
-        unstarted: words[at + 9],
+        held,
+        unstarted,
         parent,
         waits,
         state,
