@@ -28,6 +28,7 @@ pub enum Mailbox {
     Full(Message),
 }
 
+// Where both wait, the mailbox holds the start.
 #[tactic(auto, unfolding(crate::specs::Mail::box_at))]
 fn look(boxes: &[u64; 36992], p: Place) -> Mailbox
     ensures { result ≡ Mail.box_at boxes.now p.from p.to }
