@@ -4,10 +4,8 @@ use Rattle.sheet.proofs.Lines.{count_line_lem}
 use Rattle.sheet.proofs.Laying.{lays_then}
 use Rattle.sheet.proofs.Writer.put_count_line.Goals as goal
 
-pub returns : goal.returns
-returns c =
-    let a = c.args in record {
-      lays = rw (count_line_lem a.i a.j a.count c.requires.0 c.requires.1 (omega arith))
-          (lays_then (lays_then (lays_then c.put_spaced.ensures c.put_spaced-2.ensures) c.put_count.ensures) c.put.ensures);
-      fits = omega arith;
-    }
+pub returns-clause-lays : goal.returns-clause-lays
+returns-clause-lays c =
+    let a = c.args in
+    rw (count_line_lem a.i a.j a.count c.requires.0 c.requires.1 (omega arith))
+    (lays_then (lays_then (lays_then c.put_spaced.ensures c.put_spaced-2.ensures) c.put_count.ensures) c.put.ensures)

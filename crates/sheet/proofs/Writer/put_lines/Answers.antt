@@ -3,8 +3,6 @@ use Rattle.sheet.specs.Layout.{sheet_of}
 use Rattle.sheet.proofs.Laying.{lays_then}
 use Rattle.sheet.proofs.Writer.put_lines.Goals as goal
 
-pub returns : goal.returns
+pub returns-clause-lays : goal.returns-clause-lays
 unfolding sheet_of
-returns c =
-    let stations = c.put_stations.ensures in
-    record { lays = lays_then (lays_then c.put_lot.ensures stations.lays) c.put_totals.ensures; fits = stations.fits }
+returns-clause-lays c = lays_then (lays_then c.put_lot.ensures c.put_stations.ensures.lays) c.put_totals.ensures

@@ -14,9 +14,8 @@ loop-j-preserved c =
     let line = c.put_count_line.ensures in
     (lays_more _ l.0 line.lays, below_more l.1 line.fits)
 
-pub returns : goal.returns
+pub returns-clause-lays : goal.returns-clause-lays
 unfolding station_lines
-returns c =
-    let l = c.loop-j in
-    let end : l.j ≡ c.args.m.now.classes = omega arith in
-    record { lays = rw end at l.invariant.0; fits = rw end at l.invariant.1 }
+returns-clause-lays c =
+    let end : c.loop-j.j ≡ c.args.m.now.classes = omega arith in
+    rw end at c.loop-j.invariant.0

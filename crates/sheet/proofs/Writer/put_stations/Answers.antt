@@ -1,6 +1,4 @@
 -- `sheet::Writer::put_stations` meets its contract: before station i the lines of the stations below it are put. Assumes nothing.
-use mathlib.Core.Path.{◌≡◌}
-use native.Mathlib.Omega.{arith}
 use Rattle.sheet.proofs.Laying.{lays_none, lays_more, below_none, below_more}
 use Rattle.sheet.proofs.Writer.put_stations.Goals as goal
 
@@ -12,9 +10,3 @@ loop-i-preserved c =
     let l = c.loop-i.invariant in
     let lines = c.put_station.ensures in
     (lays_more _ l.0 lines.lays, below_more l.1 lines.fits)
-
-pub returns : goal.returns
-returns c =
-    let l = c.loop-i in
-    let end : l.i ≡ c.args.m.now.k = omega arith in
-    record { lays = rw end at l.invariant.0; fits = rw end at l.invariant.1 }

@@ -8,19 +8,11 @@ use Rattle.sheet.proofs.Writer.put_totals.Goals as goal
 pub loop-j-init : goal.loop-j-init
 loop-j-init c = lays_none _
 
-pub put_total_line-requires : goal.put_total_line-requires
-put_total_line-requires c =
-    record {
-      j_bound = omega (arith, c.requires.few);
-      narrow_cell = rw c.class_of.ensures (c.requires.cells c.loop-j.j c.loop-j-test.true);
-    }
-
 pub loop-j-preserved : goal.loop-j-preserved
 loop-j-preserved c = lays_more _ c.loop-j.invariant (rw c.class_of.ensures at c.put_total_line.ensures)
 
 pub returns : goal.returns
 unfolding total_lines
 returns c =
-    let l = c.loop-j in
-    let end : l.j ≡ c.args.classes = omega arith in
-    rw end at l.invariant
+    let end : c.loop-j.j ≡ c.args.classes = omega arith in
+    rw end at c.loop-j.invariant

@@ -1,11 +1,7 @@
 -- `text::Writer::put_two` meets its contract: one item, then the other. Assumes nothing.
-use Rattle.finite.proofs.Stores.{room_first, room_next}
-use Rattle.text.specs.Text.{item}
+use Rattle.finite.proofs.Stores.{room_next}
 use Rattle.text.proofs.Writing.{puts_then}
 use Rattle.text.proofs.Writer.put_two.Goals as goal
-
-pub put_item-requires : goal.put_item-requires
-put_item-requires c = room_first (item c.args.b.now c.args.y) c.requires
 
 pub put_item-requires-2 : goal.put_item-requires-2
 put_item-requires-2 c = room_next c.requires c.put_item.ensures.put
