@@ -122,6 +122,8 @@ pub(crate) fn survey(
 }
 
 // The rows of a sender, stored, and the sizes with them: of what it may send, what stations in these states can take. Most may send nothing.
+// Rows and sizes are two values, no struct: between `remove` and `add` they don't agree, so a struct would have no invariant to say, and its
+// clauses would name both all the same.
 fn put_rows(rows: &mut [u64; 256], sizes: Sizes, states: States, sender: u8, sends: Sends) -> Sizes
     requires { sender < 64 }
     ensures { HasRows sender sends states rows.old sizes rows.new result }

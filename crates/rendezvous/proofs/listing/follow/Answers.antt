@@ -13,7 +13,7 @@ use Rattle.schedule.proofs.Resizing.{others_or_two}
 use Rattle.rendezvous.specs.Internal.Receivers.{kept_at, HoldSome}
 use Rattle.rendezvous.proofs.Following.{held_anew, hold_all, rows_stand, passed_none, passed_missing, passed_anew}
 use Rattle.rendezvous.proofs.listing.follow.Goals as goal
-use Rattle.rendezvous.proofs.listing.follow.Goals.{then-met-ne0, else-met-ne0, In-loop-x}
+use Rattle.rendezvous.proofs.listing.follow.Goals.{then-met-ne0, else-met-ne0}
 
 -- the step has left the states as they were
 same : (c : goal.Then-same) → let a = c.args in a.states ≡ a.old
@@ -26,19 +26,6 @@ same c =
 held : (c : goal.Then-same) → let a = c.args in
     HoldSome (Others a.step) a.k a.states (kept_at a.kept.now) a.rows.now a.sizes
 held c = rw (same c) c.requires.rows
-
--- in the loop
-low : (c : In-loop-x) → c.loop-x.x < 64
-low c = omega (arith, c.loop-x-test.true, c.requires.places.0)
-
-pub returns-then-same-k : goal.returns-then-same-k
-returns-then-same-k c = c.fill.ensures
-
-pub refill-one-requires : goal.refill-one-requires
-refill-one-requires c = let p = c.requires.places in omega (arith, p.0, p.1.0)
-
-pub refill-all-requires : goal.refill-all-requires
-refill-all-requires c = let p = c.requires.places in omega (arith, p.0, p.1.1)
 
 pub returns-then-same : goal.returns-then-same
 returns-then-same c =
@@ -60,9 +47,6 @@ loop-x-init c =
     let stand = rows_stand step (omega (arith, p.0, p.1.0)) (omega (arith, p.0, p.1.1)) c.requires.states was is c.requires.rows in
     let one = held_anew p.0 stand step.sender p.1.0 c.refill-one.ensures in
     passed_none _ step set (held_anew p.0 one step.receiver p.1.1 c.refill-all.ensures)
-
-pub refill-all-requires-then-met-ne0 : goal.refill-all-requires-then-met-ne0
-refill-all-requires-then-met-ne0 c = low (goal.at.refill-all-requires-then-met-ne0 c).In-loop-x
 
 pub loop-x-preserved : goal.loop-x-preserved
 loop-x-preserved c =

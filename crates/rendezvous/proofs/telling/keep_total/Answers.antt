@@ -23,6 +23,3 @@ returns-after-step-root c =
     (c.store_kept.ensures.kept
     ∙ ap (λ (v : Aggregate). set (kept_in a.totals.now) a.step.receiver v)
     (c.clip-given.ensures ∙ ap (clipped a.t) knows))
-
-pub returns-else-step-eq-TELL : goal.returns-else-step-eq-TELL
-returns-else-step-eq-TELL c = rw (ne_eqb _ 5 c.if-step-eq-TELL.false)
