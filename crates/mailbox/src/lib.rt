@@ -67,7 +67,8 @@ pub fn fresh(
     Ok(())
 }
 
-// Whether the posted sums of a sender are bounded. Most senders have posted none; eight receivers to whom no answer waits are passed by one test.
+// Whether the posted sums of a sender are bounded. Most senders have posted none; eight receivers to whom no answer waits are passed by one test,
+// a step that no `for` takes.
 fn is_row_bounded(t: Config, boxes: &[u64; 36992], s: u8) -> bool
     requires { (t.k ≤ 64) × (s < 64) }
     ensures { result ≡ all_below t.k (λ r. eqb s r || mailbox_bounded t (box_at boxes.now s r) (brought_at t boxes.now s r)) }

@@ -96,7 +96,7 @@ pub(crate) fn fill(
     sizes
 }
 
-// The rows of one sender, stored anew, and the sizes with them.
+// The rows of one sender, stored anew, and the sizes with them. They are two values, no struct: between `remove` and `add` they don't agree.
 fn refill(
     rows: &mut [u64; 256],
     sizes: Sizes,

@@ -12,7 +12,7 @@ use Rattle.bitset.specs.Set.{member}
 use Rattle.mail.specs.Mail.{mailbox_bounded}
 use Rattle.mail.proofs.Guards.{box_read_lem, brought_read_lem}
 use Rattle.mailbox.proofs.Laws.{unanswered}
-use Rattle.mailbox.proofs.Testing.{tested_none, tested_past, tested_next, tested_all}
+use Rattle.mailbox.proofs.Testing.{tested_none, tested_past, tested_next}
 use Rattle.mailbox.proofs.is_row_bounded.Goals as goal
 
 pub returns-then-answers-eq0 : goal.returns-then-answers-eq0
@@ -43,6 +43,3 @@ loop-r-preserved c =
     let tests = c.is_box_bounded.ensures
     ∙ ap₂ (mailbox_bounded a.t) (box_read_lem a.boxes.now a.s hs l.r hr) (brought_read_lem a.boxes.now a.s hs l.r hr a.t) in
     (l.invariant.0, rw tests (tested_next _ _ l.invariant.1 c.loop-r-test.true))
-
-pub returns : goal.returns
-returns c = tested_all _ _ c.loop-r.invariant.1 c.loop-r-test.false

@@ -26,12 +26,6 @@ held : (c : Then-takers-old) → let a = c.args in
     HoldReceivers (Others a.step) a.t.k (root_of a.t) a.takers a.reports a.boxes.now a.rows.now a.sizes
 held c = rw (same c) c.requires.rows
 
-pub refill-one-requires : goal.refill-one-requires
-refill-one-requires c = let p = c.requires.places in omega (arith, p.0, p.1.0)
-
-pub refill-requires : goal.refill-requires
-refill-requires c = let p = c.requires.places in omega (arith, p.0, p.1.1)
-
 pub returns-then-takers-old : goal.returns-then-takers-old
 returns-then-takers-old c =
     let a = c.args in
@@ -43,9 +37,3 @@ returns-then-takers-old c =
     let first = c.refill-one.ensures in
     rw (c.refill.ensures.rows, c.refill.ensures.sizes, first.rows, first.sizes)
     (hold_those two (λ s m t. others_or_two a.step s))
-
-pub fill-requires : goal.fill-requires
-fill-requires c = c.requires.places.0
-
-pub returns : goal.returns
-returns c = c.fill.ensures
