@@ -1,11 +1,11 @@
 -- The numbers tell the answers apart, so a contract on the numbers pins the answer: a refusal is read back from its numbers.
 -- Assumes nothing.
-use Rattle.std.proofs.Common.{◌≡◌, ℕ, false, cond, eqb, List, [], ◌∷◌, get_or, Result, Ok, Err, sym, refl, ap, ◌∙◌}
+use Rattle.std.proofs.Common.{◌≡◌, ℕ, false, cond, eqb, List, [], ◌∷◌, get_or, slice_index, slice_get, option_to_list, Result, Ok, Err, sym, refl, ap, ◌∙◌}
 use Rattle.std.specs.Prelude.{⊤}
 use Rattle.finite.proofs.Cases.{clash}
 use Rattle.topology.specs.Answer.{is_accepted}
 use Rattle.topology.specs.declared.Fault.TheVariants.{Classes, Stations, Desk, Beyond, Itself, OneWay, Apart}
-use Rattle.topology.proofs.Answers.{fault_from, fault_refuses}
+use Rattle.topology.proofs.Answers.{fault_from, fault_parts, fault_refuses}
 use Rattle.linemap.specs.Reading.{read_fault_numbers, ReadOutcome, read_outcome_of}
 use Rattle.linemap.specs.Writing.{write_fault_numbers, write_numbers}
 use Rattle.linemap.specs.Openings.{fresh_fault_numbers, fresh_numbers}
@@ -69,6 +69,14 @@ fresh_again (opening.Unfit (Beyond i)) = refl
 fresh_again (opening.Unfit (Itself i)) = refl
 fresh_again (opening.Unfit (OneWay i)) = refl
 fresh_again (opening.Unfit (Apart i)) = refl
+
+-- the number of a reading's refusal, and its station where it has one
+pub read_fault_parts : (f : ReadFault) → read_fault_numbers f ≡ slice_index (read_fault_numbers f) 0 ∷ option_to_list (slice_get (read_fault_numbers f) 1)
+read_fault_parts read.Short = refl
+read_fault_parts read.Distance = refl
+read_fault_parts read.Rows = refl
+read_fault_parts read.CheckWord = refl
+read_fault_parts (read.Unfit fault) = fault_parts fault
 
 -- no refusal is an acceptance
 pub read_fault_refuses : (f : ReadFault) → is_accepted (read_fault_numbers f) ≡ false

@@ -1,7 +1,7 @@
 // The line map and its stored form (document 01, "The line map"): read, accept, count links, write.
 #![tactic(auto)]
 
-ghost use Rattle.std.specs.Prelude.{◌≡◌, ◌≤◌, length};
+ghost use Rattle.std.specs.Prelude.{◌≡◌, ◌≤◌, length, slice_index, slice_get};
 ghost use Rattle.topology.specs.Acceptance;
 ghost use Rattle.linemap.specs.Maps;
 ghost use Rattle.linemap.specs.Stored;
@@ -57,6 +57,31 @@ pub enum ReadFault {
     CheckWord,
     // The map is not accepted.
     Unfit(Fault),
+}
+
+impl ReadFault {
+    // Its number in document 01's table ("Causes and numbers").
+    pub fn number(self) -> u8
+        ensures { result ≡ slice_index (Reading.read_fault_numbers self) 0 }
+    {
+        match self {
+            ReadFault::Short => 1,
+            ReadFault::Distance => 4,
+            ReadFault::Rows => 5,
+            ReadFault::CheckWord => 6,
+            ReadFault::Unfit(fault) => fault.number(),
+        }
+    }
+
+    // The station that comes with the number, where one does.
+    pub fn station(self) -> Option<u8>
+        ensures { result ≡ slice_get (Reading.read_fault_numbers self) 1 }
+    {
+        match self {
+            ReadFault::Short | ReadFault::Distance | ReadFault::Rows | ReadFault::CheckWord => None,
+            ReadFault::Unfit(fault) => fault.station(),
+        }
+    }
 }
 
 impl From<Fault> for ReadFault {

@@ -4,7 +4,8 @@ use mathlib.Core.Path.{◌≡◌, refl, sym, ap, ◌∙◌}
 use mathlib.Core.Bool.{false, cond}
 use mathlib.Core.List.{List, [], ◌∷◌}
 use Prim.Native.Nat.{ℕ}
-use Rattle.std.specs.Prelude.{⊤, Result, Ok, Err}
+use Rattle.std.specs.Prelude.{⊤, slice_index, slice_get, Result, Ok, Err}
+use Rattle.std.proofs.Common.{option_to_list}
 use lib.ListN.{get_or}
 use lib.Dec.{eqb}
 use Rattle.finite.proofs.Cases.{clash}
@@ -35,6 +36,16 @@ fault_again (Apart i) = refl
 
 fault_pins : (f g : Fault) → fault_numbers f ≡ fault_numbers g → f ≡ g
 fault_pins f g e = sym (fault_again f) ∙ ap fault_from e ∙ fault_again g
+
+-- a refusal's number, and its station where it has one
+pub fault_parts : (f : Fault) → fault_numbers f ≡ slice_index (fault_numbers f) 0 ∷ option_to_list (slice_get (fault_numbers f) 1)
+fault_parts Classes = refl
+fault_parts Stations = refl
+fault_parts Desk = refl
+fault_parts (Beyond i) = refl
+fault_parts (Itself i) = refl
+fault_parts (OneWay i) = refl
+fault_parts (Apart i) = refl
 
 -- no refusal is an acceptance
 pub fault_refuses : (f : Fault) → is_accepted (fault_numbers f) ≡ false

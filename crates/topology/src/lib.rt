@@ -1,7 +1,7 @@
 // Acceptance of a line map's sets of neighbours, and the number of its links (document 01, "The line map").
 #![tactic(auto)]
 
-ghost use Rattle.std.specs.Prelude.{◌≡◌, true, ◌<◌, ◌≤◌};
+ghost use Rattle.std.specs.Prelude.{◌≡◌, true, ◌<◌, ◌≤◌, slice_index, slice_get};
 ghost use Rattle.finite.specs.Links;
 ghost use Rattle.bitset.specs.Set;
 ghost use Rattle.topology.specs.Acceptance;
@@ -28,6 +28,33 @@ pub enum Fault {
     OneWay(u8),
     // No chain of links joins it to the root.
     Apart(u8),
+}
+
+impl Fault {
+    // Its number in document 01's table ("Causes and numbers").
+    pub fn number(self) -> u8
+        ensures { result ≡ slice_index (Acceptance.fault_numbers self) 0 }
+    {
+        match self {
+            Fault::Classes => 2,
+            Fault::Stations => 3,
+            Fault::Desk => 19,
+            Fault::Beyond(_) => 7,
+            Fault::Itself(_) => 8,
+            Fault::OneWay(_) => 9,
+            Fault::Apart(_) => 10,
+        }
+    }
+
+    // The station that comes with the number, where one does.
+    pub fn station(self) -> Option<u8>
+        ensures { result ≡ slice_get (Acceptance.fault_numbers self) 1 }
+    {
+        match self {
+            Fault::Classes | Fault::Stations | Fault::Desk => None,
+            Fault::Beyond(i) | Fault::Itself(i) | Fault::OneWay(i) | Fault::Apart(i) => Some(i),
+        }
+    }
 }
 
 // A rule over all stations: the lowest that breaks it is refused.
