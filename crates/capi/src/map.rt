@@ -1,5 +1,5 @@
 // Line maps: read into a lent map, written, accepted and counted.
-ghost use Rattle.std.specs.Prelude.{◌≡◌, [], ◌∷◌, ◌<◌};
+ghost use Rattle.std.specs.Prelude.{◌≡◌, [], ◌∷◌, ◌<◌, option_to_list};
 ghost use Rattle.topology.specs.Acceptance.{fault_numbers};
 ghost use Rattle.linemap.specs.Maps.{acceptance, links_in};
 ghost use Rattle.linemap.specs.Openings.{fresh_fault_numbers, fresh_numbers};
@@ -20,18 +20,20 @@ pub(crate) fn with_value(number: u8, value: u32) -> u64
     number as u64 + 256 * (value as u64)
 }
 
+// A number, and its station where it has one.
+fn numbered(number: u8, station: Option<u8>) -> u64
+    ensures { result ≡ packed (number ∷ option_to_list station) }
+{
+    match station {
+        None => number as u64,
+        Some(i) => with_value(number, i as u32),
+    }
+}
+
 pub(crate) fn fault(why: Fault) -> u64
     ensures { result ≡ packed (fault_numbers why) }
 {
-    match why {
-        Fault::Classes => 2,
-        Fault::Stations => 3,
-        Fault::Desk => 19,
-        Fault::Beyond(i) => with_value(7, i as u32),
-        Fault::Itself(i) => with_value(8, i as u32),
-        Fault::OneWay(i) => with_value(9, i as u32),
-        Fault::Apart(i) => with_value(10, i as u32),
-    }
+    numbered(why.number(), why.station())
 }
 
 fn fresh_fault(why: FreshFault) -> u64
@@ -56,13 +58,7 @@ pub(crate) fn opened(answer: Result<(), FreshFault>) -> u64
 fn read_fault(why: ReadFault) -> u64
     ensures { result ≡ packed (read_fault_numbers why) }
 {
-    match why {
-        ReadFault::Short => 1,
-        ReadFault::Distance => 4,
-        ReadFault::Rows => 5,
-        ReadFault::CheckWord => 6,
-        ReadFault::Unfit(why) => fault(why),
-    }
+    numbered(why.number(), why.station())
 }
 
 fn write_fault(why: WriteFault) -> u64

@@ -1,14 +1,13 @@
--- `capi::map::fault` meets its contract: each case is its number, with the station where there is one. Assumes nothing.
+-- `capi::map::fault` meets its contract: its number, with the station where there is one. Assumes nothing.
+use mathlib.Core.Path.{sym, ap, ap₂, ◌∙◌}
+use Prim.Native.Nat.{ℕ}
+use Rattle.std.proofs.Common.{Option, option_to_list, ◌∷◌}
+use Rattle.topology.proofs.Answers.{fault_parts}
+use Rattle.capi.specs.Answers.{packed}
 use Rattle.capi.proofs.map.fault.Goals as goal
 
-pub returns-in-Beyond : goal.returns-in-Beyond
-returns-in-Beyond c = rw c.in-Beyond.is c.with_value.ensures
-
-pub returns-in-Itself : goal.returns-in-Itself
-returns-in-Itself c = rw c.in-Itself.is c.with_value-in-Itself.ensures
-
-pub returns-in-OneWay : goal.returns-in-OneWay
-returns-in-OneWay c = rw c.in-OneWay.is c.with_value-in-OneWay.ensures
-
-pub returns-in-Apart : goal.returns-in-Apart
-returns-in-Apart c = rw c.in-Apart.is c.with_value-in-Apart.ensures
+pub returns : goal.returns
+returns c =
+    c.numbered.ensures
+    ∙ ap₂ (λ (n : ℕ) (i : Option ℕ). packed (n ∷ option_to_list i)) c.number.ensures c.station.ensures
+    ∙ ap packed (sym (fault_parts c.args.why))
