@@ -2,7 +2,6 @@
 #![tactic(auto)]
 
 ghost use Rattle.std.specs.Prelude.{◌≡◌, ◌<◌, get_or};
-ghost use Rattle.topology.specs.Acceptance.{fault_numbers};
 ghost use Rattle.linemap.specs.Reading.{read_fault_numbers};
 ghost use Rattle.opening.specs.Opening as rules;
 ghost use Rattle.opening.specs.Refusals.{refusal_line};
@@ -10,7 +9,6 @@ ghost use Rattle.opening.specs.declared.OpenFault.{OpenFault};
 
 use linemap::{Map, ReadFault};
 use text::Line;
-use topology::Fault;
 
 // The most bytes that the program takes.
 pub const MOST_BYTES: usize = 65536;
@@ -73,29 +71,12 @@ pub fn draw_at(input: &[u8], i: u16) -> u16
     u16::from_le_bytes([byte_at(input, at), byte_at(input, at + 1)])
 }
 
-fn fault_line(fault: Fault) -> Line
-    ensures { result ≡ refusal_line (fault_numbers fault) }
-{
-    match fault {
-        Fault::Classes => Line::Refused(2),
-        Fault::Stations => Line::Refused(3),
-        Fault::Desk => Line::Refused(19),
-        Fault::Beyond(station) => Line::RefusedStation(7, station),
-        Fault::Itself(station) => Line::RefusedStation(8, station),
-        Fault::OneWay(station) => Line::RefusedStation(9, station),
-        Fault::Apart(station) => Line::RefusedStation(10, station),
-    }
-}
-
 fn read_fault_line(fault: ReadFault) -> Line
     ensures { result ≡ refusal_line (read_fault_numbers fault) }
 {
-    match fault {
-        ReadFault::Short => Line::Refused(1),
-        ReadFault::Distance => Line::Refused(4),
-        ReadFault::Rows => Line::Refused(5),
-        ReadFault::CheckWord => Line::Refused(6),
-        ReadFault::Unfit(map_fault) => fault_line(map_fault),
+    match fault.station() {
+        None => Line::Refused(fault.number()),
+        Some(station) => Line::RefusedStation(fault.number(), station),
     }
 }
 
