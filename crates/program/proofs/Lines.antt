@@ -50,27 +50,23 @@ module _ (l : List ℕ) (at : ℕ) (line : Line) (enough : at + line_room ≤ le
   unfolding text_in
   whole-line = rw (le-leb line_room (length part) (omega (arith, ap length part-is, length-drop at l)))
 
-  module _ {n : ℕ} (count : n ≡ length (text_in (length part) line)) where
-    pub count_le : n ≤ line_room
-    count_le = omega (arith, count, ap length whole-line, text_le line)
-
-    pub line-put-at : {after : List ℕ} → after ≡ over (text_in (length part) line) part
-        → Put l at (text_of line) (take at l ++ (after ++ drop (length l - at) (drop at l))) (at + n)
-    line-put-at {after} bytes =
-        let text : List ℕ = text_of line in
-        let none : drop (length l - at) (drop at l) ≡ [] =
-        drop_of_length-le (drop at l) {i = length l - at} (omega (arith, length-drop at l)) in
-        let rest : after ++ drop (length l - at) (drop at l) ≡ text ++ drop (at + length text) l =
-        ap (λ (x : List ℕ). after ++ x) none
-        ∙ append-nil after
-        ∙ bytes
-        ∙ ap (λ (x : List ℕ). over x part) whole-line
-        ∙ ap (λ (x : List ℕ). over text x) part-is
-        ∙ ap (λ (x : List ℕ). text ++ x) (drop-drop (length text) at l) in
-        record {
-          bytes =
-              ap (λ (x : List ℕ). take at l ++ x) rest
-              ∙ sym (append_assoc (take at l) text (drop (at + length text) l))
-              ∙ sym (sets-eq text l at (omega (arith, text_le line)));
-          end = omega (arith, count, ap length whole-line);
-        }
+  pub line-put-at : {n : ℕ} {after : List ℕ} → n ≡ length (text_in (length part) line) → after ≡ over (text_in (length part) line) part
+      → Put l at (text_of line) (take at l ++ (after ++ drop (length l - at) (drop at l))) (at + n)
+  line-put-at {after} count bytes =
+      let text : List ℕ = text_of line in
+      let none : drop (length l - at) (drop at l) ≡ [] =
+      drop_of_length-le (drop at l) {i = length l - at} (omega (arith, length-drop at l)) in
+      let rest : after ++ drop (length l - at) (drop at l) ≡ text ++ drop (at + length text) l =
+      ap (λ (x : List ℕ). after ++ x) none
+      ∙ append-nil after
+      ∙ bytes
+      ∙ ap (λ (x : List ℕ). over x part) whole-line
+      ∙ ap (λ (x : List ℕ). over text x) part-is
+      ∙ ap (λ (x : List ℕ). text ++ x) (drop-drop (length text) at l) in
+      record {
+        bytes =
+            ap (λ (x : List ℕ). take at l ++ x) rest
+            ∙ sym (append_assoc (take at l) text (drop (at + length text) l))
+            ∙ sym (sets-eq text l at (omega (arith, text_le line)));
+        end = omega (arith, count, ap length whole-line);
+      }

@@ -21,8 +21,8 @@ map_fits c =
 roomy : (c : Start) → Roomy c.args.input.now c.args.out.now
 roomy c = record { few = few_lines c.requires.opens (map_fits c); room = c.requires.output_room_in_bounds }
 
-pub put_steps-steps-requires : goal.put_steps-steps-requires
-put_steps-steps-requires c = record { opens = c.requires.opens; roomy = roomy (goal.at.put_steps-steps-requires c).Start }
+pub put_steps-steps-requires-clause-roomy : goal.put_steps-steps-requires-clause-roomy
+put_steps-steps-requires-clause-roomy c = roomy (goal.at.put_steps-steps-requires-clause-roomy c).Start
 
 pub put_line_at-requires : goal.put_line_at-requires
 put_line_at-requires c =
