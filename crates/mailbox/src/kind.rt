@@ -45,7 +45,11 @@ impl Kind for Mailing {
 
     fn is_allowed(line: &[u64; 705], boxes: &[u64; 36992], step: Step) -> bool {
         let receiver = stations::load(line, step.receiver);
-        delivery::may_step(step, receiver, mail::box_at(boxes, step.sender, step.receiver))
+        delivery::may_step(
+            step,
+            receiver,
+            mail::box_at(boxes, step.sender, step.receiver),
+        )
     }
 
     fn make(line: &mut [u64; 705], boxes: &mut [u64; 36992], step: Step) {

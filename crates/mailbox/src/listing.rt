@@ -13,7 +13,7 @@ use schedule::rows::Sizes;
 use station::Station;
 
 // The stations that take a start, and those that take an answer.
-#[derive(Clone, Copy)]
+#[derive(Clone, Copy, PartialEq, Eq)]
 pub(crate) struct Takers {
     pub(crate) starts: u64,
     pub(crate) answers: u64,
@@ -140,7 +140,7 @@ pub(crate) fn follow(
     requires rows { Rules.HoldReceivers (Others step) t.k (root_of t) old reports boxes.now rows.old sizes }
     ensures { Rules.HoldReceivers Rules.AnySender t.k (root_of t) takers reports boxes.now rows.new result }
 {
-    if (takers.starts == old.starts) & (takers.answers == old.answers) {
+    if takers == old {
         let one = refill(rows, sizes, t, takers, reports, boxes, step.sender);
         return refill(rows, one, t, takers, reports, boxes, step.receiver);
     }

@@ -81,12 +81,7 @@ impl Kind for Meeting {
 
     // The form is tested once, by `list`: after that, only the receiver can break it. What the stations may send is found anew of the two that a
     // step changes; the rows follow each step.
-    fn advance(
-        net: &mut [u64; 705],
-        totals: &mut [u64; 576],
-        l: &mut Listing,
-        step: Step,
-    ) -> bool {
+    fn advance(net: &mut [u64; 705], totals: &mut [u64; 576], l: &mut Listing, step: Step) -> bool {
         let t = stations::config_in(net);
         figure::make(net, totals, t, step);
         let old = l.states;

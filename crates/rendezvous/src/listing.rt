@@ -18,7 +18,7 @@ use schedule::rows::Sizes;
 use station::Station;
 
 // The stations that can take a start, and of these the ones that can take an answer.
-#[derive(Clone, Copy)]
+#[derive(Clone, Copy, PartialEq, Eq)]
 pub(crate) struct States {
     pub(crate) asleep: u64,
     pub(crate) active: u64,
@@ -199,7 +199,7 @@ pub(crate) fn follow(
     requires rows { HoldSome (Others step) k old (kept_at kept.now) rows.old sizes }
     ensures { HoldTakers k states (kept_at kept.now) rows.new result }
 {
-    let same = (states.asleep == old.asleep) & (states.active == old.active);
+    let same = states == old;
     if !same & (k < FEW) {
         return fill(rows, k, kept, states);
     }

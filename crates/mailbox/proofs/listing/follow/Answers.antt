@@ -1,6 +1,6 @@
 -- `mailbox::listing::follow` meets its contract: where nobody takes other messages than before, two senders' rows stored anew make all rows
 -- right. Assumes nothing.
-use mathlib.Core.Path.{◌≡◌, ap₂}
+use mathlib.Core.Path.{◌≡◌, sym, ◌∙◌, ap₂}
 use Prim.Native.Nat.{ℕ, ◌^◌, ◌<◌}
 use native.Mathlib.Omega.{arith}
 use lib.Dec.{eqb}
@@ -12,26 +12,26 @@ use Rattle.mailbox.specs.Internal.Receivers.{HoldReceivers}
 use Rattle.aggregate.specs.Aggregate.{root_of}
 use Rattle.mailbox.proofs.Following.{held_anew}
 use Rattle.mailbox.proofs.listing.follow.Goals as goal
-use Rattle.mailbox.proofs.listing.follow.Goals.{Then-takers-old}
+use Rattle.mailbox.proofs.listing.follow.Goals.{Then-eq}
 
 -- nobody takes other messages
-same : (c : Then-takers-old) → let a = c.args in a.takers ≡ a.old
+same : (c : Then-eq) → let a = c.args in a.takers ≡ a.old
 same c =
     let a = c.args in
-    let both = and_both (eqb a.takers.starts a.old.starts) (eqb a.takers.answers a.old.answers) c.if-takers-old.true in
+    let both = and_both (eqb a.takers.starts a.old.starts) (eqb a.takers.answers a.old.answers) (sym c.eq.ensures ∙ c.if-eq.true) in
     ap₂ (λ (starts answers : ℕ). record { starts = starts; answers = answers }) (eqb-true _ _ both.0) (eqb-true _ _ both.1)
 
 -- so the rows of the others stand
-held : (c : Then-takers-old) → let a = c.args in
+held : (c : Then-eq) → let a = c.args in
     HoldReceivers (Others a.step) a.t.k (root_of a.t) a.takers a.reports a.boxes.now a.rows.now a.sizes
 held c = rw (same c) c.requires.rows
 
-pub returns-then-takers-old : goal.returns-then-takers-old
-returns-then-takers-old c =
+pub returns-then-eq : goal.returns-then-eq
+returns-then-eq c =
     let a = c.args in
     let p = c.requires.places in
     let wide : (a.takers.starts < 2 ^ 64) × (a.takers.answers < 2 ^ 64) = (omega arith, omega arith) in
-    let old = held (goal.at.returns-then-takers-old c).Then-takers-old in
+    let old = held (goal.at.returns-then-eq c).Then-eq in
     let one = held_anew (root_of a.t) a.takers a.reports a.boxes.now wide p.0 old a.step.sender p.1.0 in
     let two = held_anew (root_of a.t) a.takers a.reports a.boxes.now wide p.0 one a.step.receiver p.1.1 in
     let first = c.refill-one.ensures in

@@ -1,6 +1,6 @@
 -- `rendezvous::listing::follow` meets its contract. Invariant: the rows are right of the senders below x and of those that may send to neither
 -- station of the step. Assumes nothing.
-use mathlib.Core.Path.{◌≡◌, ◌∙◌, ap₂}
+use mathlib.Core.Path.{◌≡◌, sym, ◌∙◌, ap₂}
 use mathlib.Core.Logic.{inl}
 use Prim.Native.Nat.{ℕ, ◌^◌, ◌<◌}
 use native.Mathlib.Omega.{arith}
@@ -19,7 +19,7 @@ use Rattle.rendezvous.proofs.listing.follow.Goals.{then-met-ne0, else-met-ne0}
 same : (c : goal.Then-same) → let a = c.args in a.states ≡ a.old
 same c =
     let a = c.args in
-    let both = and_both (eqb a.states.asleep a.old.asleep) (eqb a.states.active a.old.active) c.if-same.true in
+    let both = and_both (eqb a.states.asleep a.old.asleep) (eqb a.states.active a.old.active) (sym c.eq-same.ensures ∙ c.if-same.true) in
     ap₂ (λ (asleep active : ℕ). record { asleep = asleep; active = active }) (eqb-true _ _ both.0) (eqb-true _ _ both.1)
 
 -- so the rows of the others stand
