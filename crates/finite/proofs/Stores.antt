@@ -1,14 +1,12 @@
--- The laws of `Put`, a run of bytes stored: one after another, a byte, one byte more of a word, one piece more, from the front; and of the
--- room for it.
--- Assumes nothing.
-use mathlib.Core.Path.{◌≡◌, refl, ap, sym, ◌∙◌}
+-- The laws of `Put`, a run of bytes stored: one after another, one piece more, from the front; and of the room for it. Assumes nothing.
+use mathlib.Core.Path.{◌≡◌, ap, sym, ◌∙◌}
 use mathlib.Core.List.{List, [], ◌∷◌, ◌++◌}
 use Prim.Native.Nat.{ℕ, zero, suc, ◌+◌, ◌≤◌, ◌<◌}
 use native.Mathlib.Nat.{zero-add, add-zero, add-suc, suc-add}
 use native.Mathlib.Numerals.{add-one}
 use native.Mathlib.Omega.{arith}
-use lib.ListN.{length, set, take, get_or, length-append}
-use lib.Seq.{sets, sets-eq, length-sets, length-take-le, take-suc}
+use lib.ListN.{length, set, length-append}
+use lib.Seq.{sets, sets-eq, length-sets}
 use borrow.Author.Tests.{le-leb, lt-leb}
 use Rattle.finite.specs.Below.{each}
 use Rattle.finite.specs.Stores.{over, laid, laid_end}
@@ -33,9 +31,6 @@ put_then {l} {l₁} {l₂} {vs} {ws} {at} {r₁} {r₂} a b =
       end = omega (arith, a.end, b.end, length-append vs ws);
     }
 
-pub put_one : (l : List ℕ) (at v : ℕ) → Put l at (v ∷ []) (set l at v) (at + 1)
-put_one l at v = record { bytes = refl; end = omega arith }
-
 -- room for two runs is room for the first, and then for the second
 pub room_first : {l vs : List ℕ} {at : ℕ} (ws : List ℕ) → Room l at (vs ++ ws) → Room l at vs
 room_first {l} {vs} {at} ws room = record { fits = omega (arith, length-append vs ws) }
@@ -47,15 +42,6 @@ room_next {l} {l₁} {vs} {ws} {at} {r} room p =
 -- a run from the front, where there is room for it
 pub put_front : {l l' vs : List ℕ} {r : ℕ} → Room l 0 vs → Put l 0 vs l' r → (r ≡ length vs) × (l' ≡ over vs l)
 put_front {l} {l'} {vs} room p = (omega (arith, p.end), p.bytes ∙ sets-eq vs l 0 room.fits ∙ rw zero-add)
-
--- one byte more of a word
-pub put_more : {l l' : List ℕ} {at : ℕ} (word : List ℕ) (i : ℕ) → i < length word → Put l at (take i word) l' (at + i)
-    → Put l at (take (i + 1) word) (set l' (at + i) (get_or word i 0)) (at + (i + 1))
-put_more {l} {l'} {at} word i h p =
-    let byte : ℕ = get_or word i 0 in
-    let next = put_then p (put_one l' (at + i) byte) in
-    let more : take i word ++ (byte ∷ []) ≡ take (i + 1) word = sym (take-suc word i 0 h) ∙ rw add-one in
-    record { bytes = next.bytes ∙ ap (sets l at) more; end = omega (arith, length-take-le (i + 1) word (omega arith)) }
 
 -- room for the first n pieces is room for fewer of them, and one piece more is put after those before it
 module _ {l : List ℕ} {at : ℕ} (f : ℕ → List ℕ) where
