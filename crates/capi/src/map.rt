@@ -61,6 +61,7 @@ fn read_fault(why: ReadFault) -> u64
     numbered(why.number(), why.station())
 }
 
+// What only C is told by a number has it here, and in `crate::sheets`.
 fn write_fault(why: WriteFault) -> u64
     requires { value_of (write_fault_numbers why) < 4294967296 }
     ensures { result ≡ packed (write_fault_numbers why) }

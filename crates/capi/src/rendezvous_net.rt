@@ -1,4 +1,5 @@
-// Stations that meet: the words of a net, and those of the totals that its stations keep, are lent to each call, which alters them there.
+// Stations that meet: the words of a net, and those of the totals that its stations keep, are lent to each call, which alters them there. C has no
+// generic calls, so each kind of net has its four.
 ghost use Rattle.std.specs.Prelude.{◌≡◌, not, eqb};
 ghost use Rattle.schedule.specs.Listing;
 ghost use Rattle.schedule.specs.Draws.{step_on, draw_on, run_on};

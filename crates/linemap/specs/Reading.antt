@@ -48,8 +48,8 @@ read_as m = record { numbers = accepted; map = m }
 
 -- what a read answers, as numbers, and its map: the empty one where it is refused
 abbrev pub read_outcome_of : Result Map ReadFault → ReadOutcome
-read_outcome_of (Ok m) = read_as m
-read_outcome_of (Err fault) = read_refused fault
+read_outcome_of (Ok m) = record { numbers = read_numbers (Ok m); map = m }
+read_outcome_of (Err fault) = record { numbers = read_numbers (Err fault); map = empty_map }
 
 -- "The map is the last one in the lent bytes and ends with them: the last 16 are its trailer"
 abbrev pub trailer_in : List ℕ → ℕ

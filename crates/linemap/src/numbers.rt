@@ -4,7 +4,7 @@ ghost use Rattle.finite.specs.Numbers;
 ghost use Rattle.linemap.specs.Words;
 ghost use Rattle.linemap.specs.Internal.Stages;
 
-// The number in n bytes from `at`.
+// The number in n bytes from `at`: std reads numbers of fixed lengths, and a field has one, two, four or eight bytes.
 pub(crate) fn get(s: &[u8], at: usize, n: usize) -> u64
     requires { (n ≤ 8) × (at + n ≤ length s.now) }
     ensures { (result ≡ Numbers.number s.now at n) × (result < 2 ^ (8 * n)) }

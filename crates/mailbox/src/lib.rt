@@ -26,7 +26,7 @@ mod delivery;
 mod kind;
 mod listing;
 
-// The kinds of step; they are numbered 1 to KINDS.
+// The kinds of step; they are numbered 1 to KINDS. They are bytes, as C hands them over: one that is no kind gets 12.
 pub const DELIVERY: u8 = 1;
 
 pub const REPORT: u8 = 2;

@@ -52,7 +52,7 @@ fn write_some<W: Write>(writer: &mut W, bytes: &[u8]) -> io::Result<usize>
     writer.write(bytes)
 }
 
-// Reads until the input ends or buf is full.
+// Reads until the input ends or buf is full. No `for` here and below: each turn moves as many bytes as the call did.
 fn read_input<R: Read>(reader: &mut R, buf: &mut [u8]) -> io::Result<usize>
     ensures within { IfOk result (λ n. n ≤ length buf.new) }
     ensures bytes { IfOk result (λ n. IfSome (R.remaining reader.old) (λ s. take n buf.new ≡ take (length buf.new) s)) }

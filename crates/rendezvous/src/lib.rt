@@ -22,7 +22,7 @@ mod telling;
 
 pub use form::is_well_formed;
 
-// The kinds of step, TELL where totals are carried back.
+// The kinds of step, TELL where totals are carried back: bytes, as C hands them over, since any byte may be and one that is no kind gets 12.
 pub const WAKE: u8 = 1;
 
 pub const PASS: u8 = 2;
@@ -33,13 +33,14 @@ pub const REPORT: u8 = 4;
 
 pub const TELL: u8 = 5;
 
-// The flag of a net that carries totals back.
+// The flag of a net that carries totals back, a byte of the lent words: any other than this and 0 is out of form.
 const CARRYING: u8 = 1;
 
-// The state of a station that was told the total.
+// The state of a station that was told the total, a byte as the others are.
 pub const TOLD: u8 = 3;
 
-// The fresh net of an accepted map, opened for carrying back or not, to join counts the way; any other map and any other way opens none.
+// The fresh net of an accepted map, opened for carrying back or not, to join counts the way; any other map and any other way opens none. The other
+// kind of net has a call of its own too: past the test of the map they share no line.
 pub fn fresh(
     m: Map,
     way: u8,

@@ -186,6 +186,7 @@ fn find_beside(rows: &[u64], sizes: Sizes, more: &[u64], k: u8, index: u32) -> O
 }
 
 // Entry d mod c, counted from 0, of the c steps of five kinds: of the four that the sizes add up to, and of the fifth, which has rows of its own.
+// A net without a fifth kind draws by `pick`, which has none to count.
 pub fn pick_beside(rows: &[u64], sizes: Sizes, more: &[u64], k: u8, d: u16) -> Option<Step>
     ensures { result ≡ Rows.picked_beside rows.now sizes more.now k d }
 {

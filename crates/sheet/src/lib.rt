@@ -49,7 +49,8 @@ impl From<Fault> for SheetFault {
     }
 }
 
-// A lent buffer, and the place that the next byte goes to.
+// A lent buffer, and the place that the next byte goes to. `text` has one of its own, whose methods ask for room; here a public call of `text` puts
+// what there is room for, and room is asked for once, in `put_sheet`.
 #[derive(Drop)]
 struct Writer<'a> {
     buf: &'a mut [u8],
