@@ -219,8 +219,10 @@ pub(crate) fn follow(
     all
 }
 
-// The step that a draw picks where totals are carried back: of those that the rows list, and of the tells after them.
-pub(crate) fn choose_beside(
+// The step that a draw picks where totals are carried back: of those that the rows list, and of the tells after them. A function of its own: put into
+// `choose`, it has every draw save registers and take its room on the stack.
+#[inline(never)]
+fn choose_beside(
     net: &[u64; 705],
     rows: &[u64; 256],
     sizes: Sizes,
