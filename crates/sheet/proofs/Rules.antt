@@ -10,7 +10,7 @@ use Rattle.std.specs.Prelude.{Ok, Err}
 use borrow.Author.Tests.{lt-leb, le-leb, ltb-true, eqb-true}
 use Rattle.finite.proofs.Cases.{and_both}
 use Rattle.finite.proofs.Below.{all_below-at}
-use Rattle.finite.specs.Internal.Putting.{Room, Put}
+use Rattle.finite.specs.Internal.Putting.{Room}
 use Rattle.finite.proofs.Stores.{put_front}
 use Rattle.aggregate.specs.Ways.{summing}
 use Rattle.aggregate.specs.Aggregate.{root_of, cell, bounded}
@@ -30,7 +30,7 @@ use Rattle.rendezvous.proofs.Laws.{form_valid, root_most, held-bounded}
 use Rattle.sheet.specs.declared.SheetFault.TheVariants.{Unfit, Lot, OutOfForm, Differs, Unreported, Buffer}
 use Rattle.sheet.specs.Layout.{sheet_of}
 use Rattle.sheet.specs.Sheet.{sheet_outcome_of, desk_of, agrees, are_narrow, is_reported, sheet_length, sheet_on}
-use Rattle.sheet.specs.Internal.Laying.{NarrowCells, NarrowMap, FitStations}
+use Rattle.sheet.specs.Internal.Laying.{Lays, NarrowCells, NarrowMap, FitStations}
 use Rattle.sheet.proofs.Lines.{length_sheet}
 
 -- what an agreement says
@@ -110,7 +110,7 @@ module _ (m : Map) (net : Net) (l : List ℕ) where
                 (ap (λ (n : ℕ). sheet_outcome_of (Err (Buffer n)) l) e)
 
             pub lays_sheet : (need : ℕ) {out l' : List ℕ} {r : ℕ} → FitStations m.counts m.classes m.k → need ≡ sheet_length m → need ≤ length l
-                → (Room l 0 (sheet_of m (desk_of net).held) → Put l 0 (sheet_of m (desk_of net).held) l' r) → out ≡ l'
+                → Lays l 0 (sheet_of m (desk_of net).held) l' r → out ≡ l'
                 → sheet_outcome_of (Ok need) out ≡ sheet_on m net l
             unfolding sheet_on
             lays_sheet need fits e enough lays last =
@@ -118,4 +118,4 @@ module _ (m : Map) (net : Net) (l : List ℕ) where
                 let long = length_sheet m held (narrow_map m ok storable) (narrow_cells m ok net formed same reported) fits in
                 let room : Room l 0 (sheet_of m held) = record { fits = omega (arith, long, e, enough) } in
                 rw (ok, storable, formed, same, reported, le-leb (sheet_length m) (length l) (omega (arith, e, enough)))
-                (ap₂ (λ (n : ℕ) (b : List ℕ). sheet_outcome_of (Ok n) b) e (last ∙ (put_front room (lays room)).1))
+                (ap₂ (λ (n : ℕ) (b : List ℕ). sheet_outcome_of (Ok n) b) e (last ∙ (put_front room (lays.put room)).1))

@@ -8,7 +8,7 @@ ghost use Rattle.rendezvous.specs.Net.{net_in};
 ghost use Rattle.sheet.specs.Layout.{column, spaced, lot_line, count_column, count_line, total_line, station_lines, total_lines, sheet_of};
 ghost use Rattle.sheet.specs.Sheet.{sheet_outcome_of, agrees, are_narrow, is_reported, sheet_length, sheet_on};
 ghost use Rattle.sheet.specs.declared.SheetFault.{SheetFault};
-ghost use Rattle.sheet.specs.Internal.Laying.{Lays, Narrow, NarrowCell, NarrowCells, NarrowMap, FitStation, FitStations};
+ghost use Rattle.sheet.specs.Internal.Laying.{Puts, Narrow, NarrowCell, NarrowCells, NarrowMap, FitStation, FitStations};
 
 use aggregate::{Aggregate, Cell, Config};
 use linemap::Map;
@@ -22,7 +22,7 @@ const COLUMNS: usize = 20;
 const LINE_LENGTH: usize = 41;
 
 // A total of more than 12 digits is at least this.
-const TOTAL_LIMIT: u64 = 1000000000000;
+const TOTAL_LIMIT: u64 = 1_000_000_000_000;
 
 // Why no sheet is laid out.
 #[derive(Clone, Copy, Debug, PartialEq, Eq)]
@@ -59,7 +59,7 @@ struct Writer<'a> {
 
 impl Writer<'_> {
     fn put(&mut self, word: &[u8])
-        ensures { Lays self.old word.now self.new }
+        ensures { Puts self.old word.now self.new }
     {
         self.at = text::put_bytes(self.buf, self.at, word);
     }
@@ -67,7 +67,7 @@ impl Writer<'_> {
     // n in so many columns.
     fn put_number(&mut self, width: usize, n: u64)
         requires { Narrow width n }
-        ensures { Lays self.old (column width n) self.new }
+        ensures { Puts self.old (column width n) self.new }
     {
         let columns = text::align(n);
         self.put(&columns[COLUMNS - width..]);
@@ -76,7 +76,7 @@ impl Writer<'_> {
     // n in so many columns, and a blank.
     fn put_spaced(&mut self, width: usize, n: u64)
         requires { Narrow width n }
-        ensures { Lays self.old (spaced width n) self.new }
+        ensures { Puts self.old (spaced width n) self.new }
     {
         self.put_number(width, n);
         self.put(b" ");
@@ -84,7 +84,7 @@ impl Writer<'_> {
 
     fn put_lot(&mut self, lot: u64)
         requires { Narrow 15 lot }
-        ensures { Lays self.old (lot_line lot) self.new }
+        ensures { Puts self.old (lot_line lot) self.new }
     {
         self.put_number(15, lot);
         self.put(b"                         \n");
@@ -92,7 +92,7 @@ impl Writer<'_> {
 
     // A count, or ten hyphens where there was no reading.
     fn put_count(&mut self, count: u32)
-        ensures { Lays self.old (count_column count) self.new }
+        ensures { Puts self.old (count_column count) self.new }
     {
         if count == aggregate::NO_READING {
             self.put(b"----------");
@@ -104,7 +104,7 @@ impl Writer<'_> {
     // The line of station i and class j.
     fn put_count_line(&mut self, i: u8, j: u8, count: u32)
         requires { (i < 64) × (j < 8) }
-        ensures lays { Lays self.old (count_line i j count) self.new }
+        ensures lays { Puts self.old (count_line i j count) self.new }
         ensures fits { count < 4294967296 }
     {
         self.put_spaced(2, i as u64);
@@ -117,7 +117,7 @@ impl Writer<'_> {
     fn put_total_line(&mut self, j: u8, x: Cell)
         requires j_bound { j < 8 }
         requires narrow_cell { NarrowCell x }
-        ensures { Lays self.old (total_line j x) self.new }
+        ensures { Puts self.old (total_line j x) self.new }
     {
         self.put(b"T  ");
         self.put_spaced(1, j as u64 + 1);
@@ -130,7 +130,7 @@ impl Writer<'_> {
     fn put_station(&mut self, m: &Map, i: u8)
         requires i_bound { i < 64 }
         requires narrow_map { NarrowMap m.now }
-        ensures lays { Lays self.old (station_lines m.now i) self.new }
+        ensures lays { Puts self.old (station_lines m.now i) self.new }
         ensures fits { FitStation m.now.counts i m.now.classes }
     {
         let first = 8 * i as usize;
@@ -142,7 +142,7 @@ impl Writer<'_> {
     // The lines of all stations.
     fn put_stations(&mut self, m: &Map)
         requires { NarrowMap m.now }
-        ensures lays { Lays self.old (each (station_lines m.now) m.now.k) self.new }
+        ensures lays { Puts self.old (each (station_lines m.now) m.now.k) self.new }
         ensures fits { FitStations m.now.counts m.now.classes m.now.k }
     {
         for i in 0..m.k {
@@ -153,7 +153,7 @@ impl Writer<'_> {
     // The last lines, one a class.
     fn put_totals(&mut self, classes: u8, held: Aggregate)
         requires { NarrowCells classes held }
-        ensures { Lays self.old (total_lines classes held) self.new }
+        ensures { Puts self.old (total_lines classes held) self.new }
     {
         for j in 0..classes {
             self.put_total_line(j, aggregate::class_of(held, j as usize));
@@ -164,7 +164,7 @@ impl Writer<'_> {
     fn put_lines(&mut self, m: &Map, held: Aggregate)
         requires narrow_map { NarrowMap m.now }
         requires narrow_cells { NarrowCells m.now.classes held }
-        ensures lays { Lays self.old (sheet_of m.now held) self.new }
+        ensures lays { Puts self.old (sheet_of m.now held) self.new }
         ensures fits { FitStations m.now.counts m.now.classes m.now.k }
     {
         self.put_lot(m.lot);

@@ -110,4 +110,4 @@ returns c =
     let put = c.put_lines.ensures in
     lays_sheet a.m (net_in a.net.now a.totals.now) a.out.now (accepted-map at.In_ok-accept) (storable_lot at.Else-not-is_storable)
     (formed_net at.Else-not-is_well_formed) (alike at.Else-not-agrees) (reported at.Else-not-is_reported desk) _ put.fits
-    c.sheet_length-need.ensures c.if-out-need.false (rw desk at put.lays).put (search rules)
+    c.sheet_length-need.ensures c.if-out-need.false (rw desk at put.lays).lays (search rules)

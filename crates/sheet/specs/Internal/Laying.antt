@@ -8,10 +8,14 @@ use Rattle.linemap.specs.declared.Map.{Map}
 use Rattle.linemap.specs.Maps.{place}
 use Rattle.sheet.specs.declared.Writer.{Writer}
 
--- vs was put from the writer's place on, if there was room for it, and the place is the one after it; the buffer is the same
-pub record Lays (w : Writer) (vs : List ℕ) (w' : Writer) : Type 0 where
+-- vs was put into l from `at` on, if there was room for it
+pub record Lays (l : List ℕ) (at : ℕ) (vs l' : List ℕ) (r : ℕ) : Type 0 where
+  pub put : Room l at vs → Put l at vs l' r
+
+-- so it was from a writer's place on, the place is the one after it, and the buffer is the same
+pub record Puts (w : Writer) (vs : List ℕ) (w' : Writer) : Type 0 where
   pub same : w'.buf.ghost_name ≡ w.buf.ghost_name
-  pub put : Room w.buf.now w.at vs → Put w.buf.now w.at vs w'.buf.now w'.at
+  pub lays : Lays w.buf.now w.at vs w'.buf.now w'.at
 
 -- a number fits its columns
 pub record Narrow (width n : ℕ) : Type 0 where

@@ -7,4 +7,7 @@ pub returns : goal.returns
 returns c =
     let a = c.args in
     let laid = c.put_bytes-self.ensures in
-    record { same = refl; put = λ room. laid-put a.self.now.buf.now a.self.now.at a.word.now room laid.end laid.bytes }
+    record {
+      same = refl;
+      lays = record { put = λ room. laid-put a.self.now.buf.now a.self.now.at a.word.now room laid.end laid.bytes };
+    }

@@ -4,9 +4,9 @@ use lib.ListN.{get_or}
 use Rattle.finite.specs.Below.{each}
 use Rattle.linemap.specs.Maps.{place}
 use Rattle.sheet.specs.Layout.{count_line}
-use Rattle.sheet.specs.Internal.Laying.{Lays, FitStation}
+use Rattle.sheet.specs.Internal.Laying.{Puts, FitStation}
 use Rattle.sheet.proofs.Writer.put_station.Given as goal
 
 abbrev pub invariant-loop-j : goal.invariant-loop-j
 invariant-loop-j l =
-    Lays l.initial.self (each (λ (x : ℕ). count_line l.i x (get_or l.m.counts (place l.i x) 0)) l.j) l.self × FitStation l.m.counts l.i l.j
+    Puts l.initial.self (each (λ (x : ℕ). count_line l.i x (get_or l.m.counts (place l.i x) 0)) l.j) l.self × FitStation l.m.counts l.i l.j

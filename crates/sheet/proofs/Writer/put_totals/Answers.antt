@@ -2,14 +2,14 @@
 use mathlib.Core.Path.{◌≡◌}
 use native.Mathlib.Omega.{arith}
 use Rattle.sheet.specs.Layout.{total_lines}
-use Rattle.sheet.proofs.Laying.{lays_none, lays_more}
+use Rattle.sheet.proofs.Laying.{puts_none, puts_more}
 use Rattle.sheet.proofs.Writer.put_totals.Goals as goal
 
 pub loop-j-init : goal.loop-j-init
-loop-j-init c = lays_none _
+loop-j-init c = puts_none _
 
 pub loop-j-preserved : goal.loop-j-preserved
-loop-j-preserved c = lays_more _ c.loop-j.invariant (rw c.class_of.ensures at c.put_total_line.ensures)
+loop-j-preserved c = puts_more _ c.loop-j.invariant (rw c.class_of.ensures at c.put_total_line.ensures)
 
 pub returns : goal.returns
 unfolding total_lines

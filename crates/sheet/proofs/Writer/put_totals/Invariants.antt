@@ -2,9 +2,9 @@
 use Prim.Native.Nat.{ℕ}
 use Rattle.finite.specs.Below.{each}
 use Rattle.aggregate.specs.Aggregate.{cell}
-use Rattle.sheet.specs.Internal.Laying.{Lays}
+use Rattle.sheet.specs.Internal.Laying.{Puts}
 use Rattle.sheet.specs.Layout.{total_line}
 use Rattle.sheet.proofs.Writer.put_totals.Given as goal
 
 abbrev pub invariant-loop-j : goal.invariant-loop-j
-invariant-loop-j l = Lays l.initial.self (each (λ (x : ℕ). total_line x (cell l.held x)) l.j) l.self
+invariant-loop-j l = Puts l.initial.self (each (λ (x : ℕ). total_line x (cell l.held x)) l.j) l.self
