@@ -109,13 +109,12 @@ module _ (m : Map) (net : Net) (l : List ℕ) where
                 rw (ok, storable, formed, same, reported, lt-leb (sheet_length m) (length l) (omega (arith, e, less)))
                 (ap (λ (n : ℕ). sheet_outcome_of (Err (Buffer n)) l) e)
 
-            pub lays_sheet : (need : ℕ) {out l' : List ℕ} {r : ℕ} → FitStations m.counts m.classes m.k → need ≡ sheet_length m → need ≤ length l
-                → Lays l 0 (sheet_of m (desk_of net).held) l' r → out ≡ l'
-                → sheet_outcome_of (Ok need) out ≡ sheet_on m net l
+            pub lays_sheet : (need : ℕ) {l' : List ℕ} {r : ℕ} → FitStations m.counts m.classes m.k → need ≡ sheet_length m → need ≤ length l
+                → Lays l 0 (sheet_of m (desk_of net).held) l' r → sheet_outcome_of (Ok need) l' ≡ sheet_on m net l
             unfolding sheet_on
-            lays_sheet need fits e enough lays last =
+            lays_sheet need fits e enough lays =
                 let held = (desk_of net).held in
                 let long = length_sheet m held (narrow_map m ok storable) (narrow_cells m ok net formed same reported) fits in
                 let room : Room l 0 (sheet_of m held) = record { fits = omega (arith, long, e, enough) } in
                 rw (ok, storable, formed, same, reported, le-leb (sheet_length m) (length l) (omega (arith, e, enough)))
-                (ap₂ (λ (n : ℕ) (b : List ℕ). sheet_outcome_of (Ok n) b) e (last ∙ (put_front room (lays.put room)).1))
+                (ap₂ (λ (n : ℕ) (b : List ℕ). sheet_outcome_of (Ok n) b) e (put_front room (lays.put room)).1)

@@ -1,6 +1,7 @@
 -- `sheet::put_sheet` meets its contract: one law of `sheet_on` for each way it ends. Assumes nothing.
 use mathlib.Core.Path.{◌≡◌, sym, ap, ap₂, ◌∙◌}
 use mathlib.Core.Bool.{true}
+use Rattle.std.specs.Prelude.{Ok}
 use Rattle.std.proofs.Common.{rules}
 use Rattle.std.proofs.lemmas.Result.{err_from_is_err_and}
 use Rattle.aggregate.specs.Ways.{summing}
@@ -11,7 +12,7 @@ use Rattle.linemap.specs.Writing.{is_storable}
 use Rattle.stations.proofs.Words.{station_read_lem}
 use Rattle.stations.specs.Words.{config_in, station_read}
 use Rattle.rendezvous.specs.Net.{net_in, well_formed}
-use Rattle.sheet.specs.Sheet.{desk_of, agrees, is_reported}
+use Rattle.sheet.specs.Sheet.{sheet_outcome_of, desk_of, agrees, is_reported}
 use Rattle.sheet.proofs.Rules.{desk-low, narrow_map, narrow_cells, unfit, long_lot, out_of_form, differs, unreported, too_short, lays_sheet}
 use Rattle.sheet.proofs.put_sheet.Goals as goal
 use Rattle.sheet.proofs.put_sheet.Goals.{In_ok-accept, Else-not-is_storable, Else-not-is_well_formed, Else-not-agrees}
@@ -108,6 +109,7 @@ returns c =
     let at = goal.at.returns c in
     let desk = desk-is at.After-load-desk in
     let put = c.put_lines.ensures in
-    lays_sheet a.m (net_in a.net.now a.totals.now) a.out.now (accepted-map at.In_ok-accept) (storable_lot at.Else-not-is_storable)
+    ap (sheet_outcome_of (Ok c.sheet_length-need.result)) (search rules)
+    ∙ lays_sheet a.m (net_in a.net.now a.totals.now) a.out.now (accepted-map at.In_ok-accept) (storable_lot at.Else-not-is_storable)
     (formed_net at.Else-not-is_well_formed) (alike at.Else-not-agrees) (reported at.Else-not-is_reported desk) _ put.fits
-    c.sheet_length-need.ensures c.if-out-need.false (rw desk at put.lays).lays (search rules)
+    c.sheet_length-need.ensures c.if-out-need.false (rw desk at put.lays).lays
