@@ -1,15 +1,17 @@
 -- Laws of tests and tables below a bound: what each says of one number, and how a loop goes on from i to i + 1. Assumes nothing.
 use mathlib.Core.Path.{◌≡◌, refl, sym, ap, ap₂, ◌∙◌}
-use mathlib.Core.Bool.{Bool, true, false, ◌&&◌, cond}
+use mathlib.Core.Bool.{Bool, true, false, ◌&&◌, cond, and-true}
 use mathlib.Core.List.{List, [], ◌∷◌, ◌++◌}
 use Prim.Native.Nat.{ℕ, zero, suc, ◌+◌, ◌<◌, ◌≤◌}
-use native.Mathlib.Nat.{not-suc-le-zero, le_of_eq}
+use native.Mathlib.Nat.{not-suc-le-zero, le_of_eq, add-zero}
 use native.Mathlib.Numerals.{add-one}
 use native.Mathlib.Omega.{arith}
 use lib.Dec.{ltb}
 use lib.ListN.{length, get_or, take, set, length-append, length-set, get_or-append}
 use lib.Seq.{get_or-append-add, take-suc-set, take_all, get_or-set_same, get_or-set_other, ext_get_or}
 use borrow.Author.Tests.{ltb-true, ltb-false}
+use Rattle.std.proofs.Math.Bool.{and_assoc}
+use Rattle.std.specs.List.{range_with_len, list_all}
 use Rattle.finite.specs.Below.{all_below, each, tabulate}
 use Rattle.finite.proofs.Cases.{clash, by_bool, by_eq, and_both}
 
@@ -138,3 +140,18 @@ pub all_below_both : (n : ℕ) (p q : ℕ → Bool) → (all_below n p && all_be
 unfolding all_below
 all_below_both zero p q = refl
 all_below_both (suc n) p q = and-four (all_below n p) (p n) (all_below n q) (q n) ∙ ap (λ (b : Bool). b && (p n && q n)) (all_below_both n p q)
+
+-- the first of the numbers is tested first
+first : (q : ℕ → Bool) (n : ℕ) → (q 0 && all_below n (λ i. q (suc i))) ≡ all_below (suc n) q
+unfolding all_below
+first q zero = and-true (q 0)
+first q (suc n) = sym (and_assoc (q 0) _ (q (suc n))) ∙ ap (λ (b : Bool). b && q (suc n)) (first q n)
+
+-- a closure that is asked of the numbers of a range, in turn
+pub in_turn : (p : ℕ → Bool) (a n : ℕ) → list_all p (range_with_len a n) ≡ all_below n (λ i. p (a + i))
+unfolding all_below
+in_turn p a zero = refl
+in_turn p a (suc n) =
+    ap (λ (b : Bool). p a && b) (in_turn p (a + 1) n ∙ all_below_ext n _ _ (λ i l. ap p (omega arith)))
+    ∙ ap (λ (x : ℕ). p x && all_below n (λ i. p (a + suc i))) (sym (add-zero a))
+    ∙ first (λ i. p (a + i)) n

@@ -1,13 +1,14 @@
 -- The laws of `Put`, a run of bytes stored: one after another, one piece more, from the front; and of the room for it. Assumes nothing.
-use mathlib.Core.Path.{◌≡◌, ap, sym, ◌∙◌}
-use mathlib.Core.List.{List, [], ◌∷◌, ◌++◌}
-use Prim.Native.Nat.{ℕ, zero, suc, ◌+◌, ◌≤◌, ◌<◌}
+use mathlib.Core.Path.{◌≡◌, refl, ap, sym, ◌∙◌}
+use mathlib.Core.List.{List, [], ◌∷◌, ◌++◌, append_assoc}
+use Prim.Native.Nat.{ℕ, zero, suc, ◌+◌, ◌-◌, ◌≤◌, ◌<◌}
 use native.Mathlib.Nat.{zero-add, add-zero, add-suc, suc-add}
 use native.Mathlib.Numerals.{add-one}
 use native.Mathlib.Omega.{arith}
-use lib.ListN.{length, set, length-append}
+use lib.ListN.{length, take, drop, set, length-append}
 use lib.Seq.{sets, sets-eq, length-sets}
 use borrow.Author.Tests.{le-leb, lt-leb}
+use borrow.Rule.Slice.PartMut.{put_mid, Post-is}
 use Rattle.finite.specs.Below.{each}
 use Rattle.finite.specs.Stores.{over, laid, laid_end}
 use Rattle.finite.specs.Internal.Putting.{Room, Put}
@@ -29,6 +30,20 @@ put_then {l} {l₁} {l₂} {vs} {ws} {at} {r₁} {r₂} a b =
           ∙ ap (λ (n : ℕ). sets (sets l at vs) n ws) a.end
           ∙ sets-sets vs ws l at;
       end = omega (arith, a.end, b.end, length-append vs ws);
+    }
+
+-- a run that is copied to its place
+pub put_copy : {l word copied : List ℕ} {at : ℕ} → Room l at word → copied ≡ word
+    → Put l at word (put_mid at (at + length word - at) l copied) (at + length word)
+put_copy {l} {word} {copied} {at} room e =
+    let end : ℕ = at + length word in
+    record {
+      bytes =
+          ap (put_mid at (end - at) l) e
+          ∙ ap (λ (x : List ℕ). take at l ++ (word ++ x)) (Post-is at end l (omega arith))
+          ∙ sym (append_assoc (take at l) word (drop end l))
+          ∙ sym (sets-eq word l at room.fits);
+      end = refl;
     }
 
 -- room for two runs is room for the first, and then for the second

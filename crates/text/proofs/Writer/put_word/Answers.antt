@@ -1,6 +1,6 @@
 -- `text::Writer::put_word` meets its contract: the word is copied to its place. Assumes nothing.
 use mathlib.Core.Path.{refl}
-use Rattle.text.proofs.Writing.{put_copy}
+use Rattle.finite.proofs.Stores.{put_copy}
 use Rattle.text.proofs.Writer.put_word.Goals as goal
 
 pub returns : goal.returns
