@@ -17,7 +17,7 @@ pub fn is_station_count(k: u64) -> bool
 pub fn size(set: u64) -> u8
     ensures { result ≡ Set.size set }
 {
-    u64::count_ones(set) as u8
+    set.count_ones() as u8
 }
 
 // Whether station j is in the set.
