@@ -1,4 +1,5 @@
-// What a station has gathered, class by class, and how two of these are joined. The crates above look inside none of these records.
+// What a station has gathered, class by class, and how two of these are joined. The crates above read these records where they store, test or
+// show them, and leave the joining to this one.
 #![tactic(auto)]
 
 ghost use Rattle.std.specs.Prelude.{◌≡◌, true, cond, Some, None, ℕ, ◌<◌, max, min, eqb, get_or};
@@ -42,7 +43,7 @@ pub struct Aggregate {
 const MOST_CLASSES: usize = 8;
 
 // The count of a head without a reading.
-pub const NO_READING: u32 = 4294967295;
+pub const NO_READING: u32 = u32::MAX;
 
 // The ways of joining counts.
 pub const SUMMING: u8 = 0;
@@ -54,7 +55,7 @@ const LEAST: u8 = 2;
 const COUNTING: u8 = 3;
 
 // The greatest or the least of no readings: a number, as the C interface has it.
-const NONE: u64 = 18446744073709551615;
+const NONE: u64 = u64::MAX;
 
 // Sums of well-formed stations are below this, but for none.
 const SUM_LIMIT: u64 = 1 << 62;
