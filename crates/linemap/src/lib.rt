@@ -27,7 +27,10 @@ const SET_LENGTH: usize = 8;
 const TRAILER_LENGTH: usize = 16;
 
 // A stored lot has 48 bits, so it is below this.
-const LOT_LIMIT: u64 = 281474976710656;
+const LOT_LIMIT: u64 = 1 << 48;
+
+// It is stored in two parts: the lower is below this.
+const LOWER_LIMIT: u64 = 1 << 32;
 
 // The places that a station has among the counts.
 const PLACES: usize = 8;
@@ -127,7 +130,7 @@ impl From<Fault> for FreshFault {
     }
 }
 
-// The map of no stations, which stands where none was read.
+// The map of no stations (`empty_map`).
 pub fn empty() -> Map
     ensures { result ≡ Reading.empty_map }
 {

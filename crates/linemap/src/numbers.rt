@@ -4,28 +4,22 @@ ghost use Rattle.finite.specs.Numbers;
 ghost use Rattle.linemap.specs.Words;
 ghost use Rattle.linemap.specs.Internal.Stages;
 
-// The number in n bytes from `at`: std reads numbers of fixed lengths, and a field has one, two, four or eight bytes.
+// The number in n bytes from `at`: a field has one, two, four or eight.
 pub(crate) fn get(s: &[u8], at: usize, n: usize) -> u64
     requires { (n ≤ 8) × (at + n ≤ length s.now) }
     ensures { (result ≡ Numbers.number s.now at n) × (result < 2 ^ (8 * n)) }
 {
-    let mut value: u64 = 0;
-    for i in (0..n).rev() {
-        value = s[at + i] as u64 + 256 * value;
-    }
-    value
+    let mut bytes = [0u8; 8];
+    bytes[..n].copy_from_slice(&s[at..at + n]);
+    u64::from_le_bytes(bytes)
 }
 
 // The lowest n bytes of x, from `at`.
 pub(crate) fn put(buf: &mut [u8], at: usize, n: usize, x: u64)
-    requires { at + n ≤ length buf.old }
+    requires { (n ≤ 8) × (at + n ≤ length buf.old) }
     ensures { buf.new ≡ Stages.put buf.old at (Numbers.bytes n x) }
 {
-    let mut left = x;
-    for i in 0..n {
-        buf[at + i] = (left % 256) as u8;
-        left /= 256;
-    }
+    buf[at..at + n].copy_from_slice(&x.to_le_bytes()[..n]);
 }
 
 // The n words from `at`, added with wrap at 2^32.

@@ -38,7 +38,7 @@ pub(crate) fn read_trailer(s: &[u8]) -> Option<Trailer>
         desk: get(s, t + 1, 1),
         row_length: get(s, t + 2, 2),
         distance: get(s, t + 4, 2),
-        lot: get(s, t + 8, 4) + 4294967296 * get(s, t + 6, 2),
+        lot: get(s, t + 8, 4) + crate::LOWER_LIMIT * get(s, t + 6, 2),
     })
 }
 

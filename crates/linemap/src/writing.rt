@@ -54,15 +54,15 @@ fn put_trailer(buf: &mut [u8], width: usize, k: usize, desk: u8, lot: u64)
     put(buf, t + 1, 1, desk as u64);
     put(buf, t + 2, 2, width as u64);
     put(buf, t + 4, 2, t as u64);
-    put(buf, t + 6, 2, lot / 4294967296);
-    put(buf, t + 8, 4, lot % 4294967296);
+    put(buf, t + 6, 2, lot / crate::LOWER_LIMIT);
+    put(buf, t + 8, 4, lot % crate::LOWER_LIMIT);
 }
 
 // What takes a sum to zero.
 fn check_word(sum: u32) -> u64
     ensures { result ≡ check_word sum }
 {
-    (4294967296 - sum as u64) % 4294967296
+    sum.wrapping_neg() as u64
 }
 
 // The stored form of m, from the first byte of buf.

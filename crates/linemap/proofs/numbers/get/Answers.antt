@@ -1,52 +1,65 @@
--- `linemap::numbers::get` meets its contract. Invariant: the number in the bytes from i on; eight bytes fit. Assumes nothing.
-use Rattle.std.proofs.Common.{◌≡◌, ℕ, suc, ◌+◌, ◌-◌, ◌*◌, ◌^◌, ◌<◌, ◌≤◌, List, get_or, sym, ap, ◌∙◌, ap₂, arith, pow_mono}
-use Rattle.finite.specs.Numbers.{number}
-use Rattle.finite.proofs.Digits.{number_small}
+-- `linemap::numbers::get` meets its contract: the n bytes, and zeros after them, are the eight bytes of their number. Assumes nothing.
+use Rattle.std.proofs.Common.{◌≡◌, ℕ, zero, suc, ◌+◌, ◌-◌, ◌*◌, ◌/◌, ◌%◌, ◌^◌, ◌<◌, ◌≤◌, List, ◌∷◌, ◌++◌, length, get_or, take, drop, replicate, refl, sym, ap, ap₂, ◌∙◌, arith, rules, pow_mono}
+use borrow.Rule.Slice.PartMut.{put_mid}
+use lib.Seq.{sets-eq}
+use Rattle.std.specs.Int.{w64, from_le_bytes}
+use Rattle.std.proofs.lemmas.List.{drop-replicate}
+use Rattle.std.proofs.lemmas.Nat.{from_le_bytes-to_le_bytes_8}
+use Rattle.finite.specs.Numbers.{number, bytes}
+use Rattle.finite.proofs.Digits.{length-bytes, power_more, number_small, bytes_again}
+use Rattle.finite.proofs.Stores.{put_copy}
+use Rattle.aggregate.proofs.WordBytes.{bytes_of-word}
 use Rattle.linemap.proofs.numbers.get.Goals as goal
-use Rattle.linemap.proofs.numbers.get.Goals.{In-loop-i}
 
--- the byte below those read
-byte_below : (s : List ℕ) (at n i : ℕ) → 0 < i → i ≤ n
-    → number s (at + (i - 1)) (n - (i - 1)) ≡ get_or s (at + (i - 1)) 0 + 2 ^ 8 * number s (at + i) (n - i)
-unfolding number
-byte_below s at n i some few =
-    let one_more : n - (i - 1) ≡ suc (n - i) = omega arith in
-    let next : at + (i - 1) + 1 ≡ at + i = omega arith in
-    rw (one_more, next)
+-- the bytes above a number are zeros
+bytes_zero : (m : ℕ) → bytes m 0 ≡ replicate m 0
+unfolding bytes
+bytes_zero zero = refl
+bytes_zero (suc m) = ap (λ (l : List ℕ). 0 ∷ l) (bytes_zero m)
 
--- at most seven bytes are read before another
-bound : (c : In-loop-i) → ((j : ℕ) → get_or c.args.s.now j 0 < 2 ^ 8) → c.loop-i.value < 2 ^ 56
-bound c byte =
-    let i = c.loop-i.i in
-    let n = c.args.n in
-    let small = number_small c.args.s.now byte (n - i) (c.args.at + i) in
-    let least = pow_mono {i = 8 * (n - i)} {j = 56} (omega arith) in
-    omega (arith, c.loop-i.invariant)
+bytes_above : (n m x : ℕ) → x < 2 ^ (8 * n) → bytes (n + m) x ≡ bytes n x ++ replicate m 0
+unfolding bytes
+bytes_above zero m x h =
+    let none : x ≡ 0 = omega (arith, h) in
+    let all : 0 + m ≡ m = omega arith in
+    rw (none, all) (bytes_zero m)
+bytes_above (suc n) m x h =
+    let one_more : suc n + m ≡ suc (n + m) = omega arith in
+    rw one_more (ap (λ (l : List ℕ). x % 2 ^ 8 ∷ l) (bytes_above n m (x / 2 ^ 8) (omega (arith, h, power_more n))))
 
-pub loop-i-init : goal.loop-i-init
-unfolding number
-loop-i-init c = let none : c.args.n - c.args.n ≡ 0 = omega arith in rw none
+-- the bytes of a number over the front of eight zeros
+filled : (n x : ℕ) {copied : List ℕ} → n ≤ 8 → x < 2 ^ (8 * n) → copied ≡ bytes n x → put_mid 0 (n - 0) (replicate 8 0) copied ≡ bytes 8 x
+filled n x {copied} few small e =
+    let long = length-bytes n x in
+    let zeros : List ℕ = replicate 8 0 in
+    let room : 0 + length (bytes n x) ≤ length zeros = omega (arith, long) in
+    let end : 0 + length (bytes n x) ≡ n = omega (arith, long) in
+    let all : n + (8 - n) ≡ 8 = omega arith in
+    ap (λ (k : ℕ). put_mid 0 (k - 0) zeros copied) (sym end)
+    ∙ (put_copy (record { fits = room }) e).bytes
+    ∙ sets-eq (bytes n x) zeros 0 room
+    ∙ ap (λ (k : ℕ). bytes n x ++ drop k zeros) end
+    ∙ ap (λ (l : List ℕ). bytes n x ++ l) (drop-replicate n 8 0)
+    ∙ sym (bytes_above n (8 - n) x small)
+    ∙ ap (λ (k : ℕ). bytes k x) all
 
-pub overflow_mul-value : goal.overflow_mul-value
-overflow_mul-value c = omega (arith, bound (goal.at.overflow_mul-value c).In-loop-i (λ j. (c.type_inv.s j).fits))
-
-pub overflow_add-value-in-loop-i : goal.overflow_add-value-in-loop-i
-overflow_add-value-in-loop-i c =
-    let byte = (c.type_inv.s (c.args.at + (c.loop-i.i - 1))).fits in
-    omega (arith, byte, bound (goal.at.overflow_add-value-in-loop-i c).In-loop-i (λ j. (c.type_inv.s j).fits))
-
-pub loop-i-preserved : goal.loop-i-preserved
-loop-i-preserved c =
-    let a = c.args in
-    let at = c.loop-i in
-    ap (λ (y : ℕ). get_or a.s.now (a.at + (at.i - 1)) 0 + 2 ^ 8 * y) at.invariant
-    ∙ sym (byte_below a.s.now a.at a.n at.i (omega arith) (omega arith))
+-- so they are read as it
+read : (n x : ℕ) {r : ℕ} {copied : List ℕ} → n ≤ 8 → x < 2 ^ (8 * n)
+    → r ≡ from_le_bytes w64 (put_mid 0 (n - 0) (replicate 8 0) copied) → copied ≡ bytes n x → r ≡ x
+read n x few small told e =
+    let most = pow_mono {i = 8 * n} {j = 64} (omega (arith, few)) in
+    told
+    ∙ ap (from_le_bytes w64) (filled n x few small e ∙ bytes_of-word x)
+    ∙ from_le_bytes-to_le_bytes_8 x (omega (arith, small, most))
 
 pub returns : goal.returns
 returns c =
-    let s = c.args.s.now in
-    let none : c.loop-i.i ≡ 0 = omega arith in
-    let from : c.args.at + c.loop-i.i ≡ c.args.at = omega arith in
-    let all : c.args.n - c.loop-i.i ≡ c.args.n = omega arith in
-    let is = c.loop-i.invariant ∙ ap₂ (number s) from all in
-    (is, rw is (number_small s (λ j. (c.type_inv.s j).fits) c.args.n c.args.at))
+    let a = c.args in
+    let s = a.s.now in
+    let byte : (i : ℕ) → get_or s i 0 < 2 ^ 8 = λ i. (c.type_inv.s i).fits in
+    let small = number_small s byte a.n a.at in
+    let part : a.at + a.n - a.at ≡ a.n = omega arith in
+    let copied = c.copy_from_slice.ensures.after ∙ ap (λ (n : ℕ). take n (drop a.at s)) part ∙ sym (bytes_again s byte a.n a.at c.requires.1) in
+    let told : c.from_le_bytes.result ≡ from_le_bytes w64 (put_mid 0 (a.n - 0) (replicate 8 0) c.copy_from_slice.new.self) = search rules in
+    let is = read a.n (number s a.at a.n) c.requires.0 small told copied in
+    (is, rw is small)

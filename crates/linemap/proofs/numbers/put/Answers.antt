@@ -1,31 +1,26 @@
--- `linemap::numbers::put` meets its contract. Invariant: what is left to store leads to the same list. Assumes nothing.
-use Rattle.std.proofs.Common.{◌≡◌, ℕ, suc, ◌+◌, ◌-◌, ◌/◌, ◌%◌, ◌^◌, ◌<◌, List, set, sym, ◌∙◌, add_assoc, arith, rules}
+-- `linemap::numbers::put` meets its contract: the lowest n of the eight bytes are copied to their place. Assumes nothing.
+use Rattle.std.proofs.Common.{◌≡◌, ℕ, zero, suc, ◌+◌, ◌-◌, ◌/◌, ◌%◌, ◌^◌, ◌≤◌, List, ◌∷◌, length, take, refl, sym, ap, ◌∙◌, arith}
+use borrow.Rule.Slice.PartMut.{put_mid}
 use Rattle.finite.specs.Numbers.{bytes}
+use Rattle.finite.proofs.Digits.{length-bytes}
+use Rattle.finite.proofs.Stores.{put_copy}
+use Rattle.aggregate.proofs.WordBytes.{bytes_of-word}
 use Rattle.linemap.specs.Internal.Stages.{put}
-use Rattle.linemap.proofs.Put.{put-none, put_first}
 use Rattle.linemap.proofs.numbers.put.Goals as goal
 
--- the next byte, and those after it
-put_byte : (b : List ℕ) (at n i x : ℕ) → i < n
-    → put b (at + i) (bytes (n - i) x) ≡ put (set b (at + i) (x % 2 ^ 8)) (at + (i + 1)) (bytes (n - (i + 1)) (x / 2 ^ 8))
+-- the first of the bytes are the lowest
+bytes_first : (n m x : ℕ) → n ≤ m → take n (bytes m x) ≡ bytes n x
 unfolding bytes
-put_byte b at n i x more =
-    let one_more : n - i ≡ suc (n - (i + 1)) = omega arith in
-    rw (one_more, ← add_assoc) (put_first b (at + i) (x % 2 ^ 8) (bytes (n - (i + 1)) (x / 2 ^ 8)))
-
-put-end : (b : List ℕ) (at n x : ℕ) → n ≡ 0 → put b at (bytes n x) ≡ b
-unfolding bytes
-put-end b at n x none = rw none (put-none b at)
-
-pub loop-i-preserved : goal.loop-i-preserved
-loop-i-preserved c =
-    let at = c.loop-i in (
-      sym (put_byte at.buf c.args.at c.args.n at.i at.left c.loop-i-test.true) ∙ at.invariant.0,
-      search rules,
-    )
+bytes_first zero m x h = refl
+bytes_first (suc n) zero x h = absurd (omega (arith, h))
+bytes_first (suc n) (suc m) x h = ap (λ (l : List ℕ). x % 2 ^ 8 ∷ l) (bytes_first n m (x / 2 ^ 8) (omega (arith, h)))
 
 pub returns : goal.returns
+unfolding put
 returns c =
-    let at = c.loop-i in
-    let none : c.args.n - at.i ≡ 0 = omega arith in
-    sym (put-end at.buf (c.args.at + at.i) (c.args.n - at.i) at.left none) ∙ at.invariant.0
+    let a = c.args in
+    let long = length-bytes a.n a.x in
+    let copied = c.copy_from_slice.ensures.after
+    ∙ ap (take a.n) (c.to_le_bytes.ensures ∙ sym (bytes_of-word a.x)) ∙ bytes_first a.n 8 a.x c.requires.0 in
+    ap (λ (n : ℕ). put_mid a.at (a.at + n - a.at) a.buf.now c.copy_from_slice.new.self) (sym long)
+    ∙ (put_copy {at = a.at} (record { fits = omega (arith, long, c.requires.1) }) copied).bytes
