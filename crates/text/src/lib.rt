@@ -36,6 +36,7 @@ pub enum Line {
         steps: u64,
         links: u32,
     },
+    // A station is a second case, no Option: `words_of` has the two.
     Refused(u8),
     RefusedStation(u8, u8),
 }
@@ -45,7 +46,8 @@ pub const LINE_ROOM: usize = 400;
 
 const MOST_DIGITS: u8 = 20;
 
-// A lent buffer, and the place that the next byte goes to.
+// A lent buffer, and the place that the next byte goes to. Each method asks for room: what it asks speaks of what it puts, so no invariant of the
+// Writer says it.
 #[derive(Drop)]
 struct Writer<'a> {
     buf: &'a mut [u8],
@@ -71,7 +73,7 @@ impl Writer<'_> {
         self.at += 1;
     }
 
-    // n in decimal, by at most `most` digits.
+    // n in decimal, by at most `most` digits. By hand: std's Display goes through a Formatter, and `put_line` promises each byte by `digits`.
     fn put_number(&mut self, n: u64, most: u8)
         requires { Fits self.old (digits most n) }
         ensures { Puts self.old (digits most n) self.new }
@@ -171,7 +173,7 @@ pub fn put_line(buf: &mut [u8], line: Line) -> usize
     if buf.len() < LINE_ROOM {
         return 0;
     }
-    let mut writer = Writer { buf: buf, at: 0 };
+    let mut writer = Writer { buf, at: 0 };
     writer.put_words(line);
     writer.put_word(b"\n");
     writer.at
@@ -185,7 +187,7 @@ pub fn put_bytes(buf: &mut [u8], at: usize, word: &[u8]) -> usize
     if buf.len() < at || buf.len() - at < word.len() {
         return at;
     }
-    let mut writer = Writer { buf: buf, at: at };
+    let mut writer = Writer { buf, at };
     writer.put_word(word);
     writer.at
 }
