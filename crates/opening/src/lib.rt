@@ -52,7 +52,7 @@ pub fn open(input: &[u8]) -> Result<Opening, OpenFault>
     }
     Ok(Opening {
         draws: (before / 2) as u16,
-        map: map,
+        map,
     })
 }
 

@@ -58,13 +58,13 @@ fn step_line(net: &[u64; 705], step: Step) -> Line
         rendezvous::ANSWER => Line::Answer {
             sender: step.sender,
             receiver: step.receiver,
-            config: config,
-            held: held,
+            config,
+            held,
         },
         _ => Line::Report {
             root: step.sender,
-            config: config,
-            held: held,
+            config,
+            held,
         },
     }
 }
@@ -103,16 +103,13 @@ fn put_steps(input: &[u8], opened: Opening, out: &mut [u8]) -> Steps
         let here = net;
         let answer = rendezvous::draw(&mut net, &mut totals, opening::draw_at(input, made));
         let Ok(step) = answer else {
-            return Steps {
-                made: made,
-                end: end,
-            };
+            return Steps { made, end };
         };
         end = put_line_at(out, end, step_line(&here, step));
     }
     Steps {
         made: opened.draws,
-        end: end,
+        end,
     }
 }
 

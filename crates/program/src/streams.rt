@@ -52,7 +52,8 @@ fn write_some<W: Write>(writer: &mut W, bytes: &[u8]) -> io::Result<usize>
     writer.write(bytes)
 }
 
-// Reads until the input ends or buf is full. No `for` here and below: each turn moves as many bytes as the call did.
+// Reads until the input ends or buf is full. Not by std: `read_exact` refuses an input that is shorter than buf, `read_to_end` wants a Vec. No `for`
+// here and below: each turn moves as many bytes as the call did.
 fn read_input<R: Read>(reader: &mut R, buf: &mut [u8]) -> io::Result<usize>
     ensures within { IfOk result (λ n. n ≤ length buf.new) }
     ensures bytes { IfOk result (λ n. IfSome (R.remaining reader.old) (λ s. take n buf.new ≡ take (length buf.new) s)) }
@@ -68,7 +69,8 @@ fn read_input<R: Read>(reader: &mut R, buf: &mut [u8]) -> io::Result<usize>
     Ok(n)
 }
 
-// Writes the output for this input. A write that fails or takes nothing is the last.
+// Writes the output for this input. A write that fails or takes nothing is the last. Not `write_all`: it says nothing of a write that failed half
+// way, which `Writes` does.
 fn write_output<W: Write>(writer: &mut W, input: &[u8], output: &[u8]) -> io::Result<()>
     requires { output.now ≡ output_of input.now }
     ensures { Writes (W.contents writer.old) (W.contents writer.new) (output_of input.now) result }
@@ -105,6 +107,7 @@ pub(crate) fn serve<R: Read, W: Write>(
     requires output_room { output_room ≤ length output.old }
     ensures { Serves (R.remaining reader.old) (W.contents writer.old) (W.contents writer.new) result }
 {
+    // No `?`: with `read_input(..).map_err(ServeError::Unread)?` the proof of `Serves` didn't close.
     match read_input(reader, input) {
         Ok(n) => match write_lot(writer, &input[..n], output) {
             Ok(()) => Ok(n),
