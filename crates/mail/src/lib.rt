@@ -21,7 +21,7 @@ pub enum Message {
     Answer,
 }
 
-// 01: a box. The document has an enum of its own for it, so no Option stands here.
+// 01: a box. No Option: document 01 asks for this enum, and `box_at`, which README names, answers it.
 #[derive(Clone, Copy)]
 pub enum Mailbox {
     Empty,
@@ -81,8 +81,7 @@ pub fn is_box_bounded(t: Config, boxes: &[u64; 36992], from: u8, to: u8) -> bool
     ensures { result ≡ Mail.mailbox_bounded t (Writing.box_read boxes.now from to) (Writing.brought_read t boxes.now from to) }
 {
     match box_at(boxes, from, to) {
-        Mailbox::Empty => true,
-        Mailbox::Full(Message::Start) => true,
+        Mailbox::Empty | Mailbox::Full(Message::Start) => true,
         Mailbox::Full(Message::Answer) => aggregate::is_bounded(t, brought_at(t, boxes, from, to)),
     }
 }
