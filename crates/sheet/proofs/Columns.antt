@@ -7,6 +7,7 @@ use Prim.Native.Char.{code}
 use native.Mathlib.Omega.{arith}
 use lib.ListN.{length, take, drop, replicate, length-append, length-replicate}
 use lib.Seq.{drop-append-le, take_all}
+use Rattle.std.proofs.lemmas.List.{drop-replicate}
 use Rattle.finite.proofs.Cases.{by_bool}
 use Rattle.aggregate.specs.Aggregate.{is_missing}
 use Rattle.text.specs.Ascii.{ascii}
@@ -14,11 +15,6 @@ use Rattle.text.specs.Text.{digits, padded}
 use Rattle.text.proofs.Digits.{digits_few}
 use Rattle.sheet.specs.Layout.{column, spaced, count_column}
 use Rattle.sheet.specs.Internal.Laying.{Narrow}
-
-drop-replicate : (m n b : ℕ) → drop m (replicate n b) ≡ replicate (n - m) b
-drop-replicate zero n b = ap (λ (x : ℕ). replicate x b) {x = n} {y = n - 0} (omega arith)
-drop-replicate (suc m) zero b = ap (λ (x : ℕ). replicate x b) {x = 0} {y = 0 - suc m} (omega arith)
-drop-replicate (suc m) (suc n) b = drop-replicate m n b ∙ ap (λ (x : ℕ). replicate x b) {x = n - m} {y = suc n - suc m} (omega arith)
 
 length-padded : (w : ℕ) (text : List ℕ) → length text ≤ w → length (padded w text) ≡ w
 unfolding padded

@@ -184,14 +184,7 @@ fn agrees(s: Config, t: Config) -> bool
 fn are_narrow(classes: u8, s: Station) -> bool
     ensures { result ≡ are_narrow classes s }
 {
-    let held = s.held;
-    for j in 0..classes {
-        let x = aggregate::class_of(held, j as usize);
-        if TOTAL_LIMIT <= x.sum {
-            return false;
-        }
-    }
-    true
+    (0..classes).all(|j| aggregate::class_of(s.held, j as usize).sum < TOTAL_LIMIT)
 }
 
 // Whether a desk has reported, and its totals fit their columns.
