@@ -79,49 +79,81 @@ fn is_near(root: u8, set: u64, reached: u64, i: u8) -> bool
     (i == root) | !((reached & set) == 0)
 }
 
-// The root, and the stations with a neighbour that is reached.
-fn round(root: u8, k: u8, sets: &[u64; 64], reached: u64) -> u64
-    requires { k ≤ 64 }
-    ensures { result ≡ Parts.round_of root k sets.now reached }
+// How many stations below i are in the set.
+fn count_below(set: u64, i: u8) -> u32
+    requires { i < 64 }
+    ensures { result ≡ Parts.count_below i set }
 {
-    let mut out: u64 = 0;
-    for i in 0..k {
-        let near = is_near(root, sets[i as usize], reached, i);
-        out += bit_if(near, i);
-    }
-    out
+    let low = set % (1u64 << i);
+    size(low) as u32
 }
 
-// The stations that a chain of links joins to the root; no round finds more after one that finds none.
-fn reach(root: u8, k: u8, sets: &[u64; 64]) -> u64
-    requires { k ≤ 64 }
-    ensures { result ≡ Parts.reached_of root k sets.now }
-{
-    let mut reached: u64 = 0;
-    for _ in 0..k {
-        let next = round(root, k, sets, reached);
-        if next == reached {
-            return reached;
+// k stations with their sets of neighbours, and a root among them.
+#[derive(Drop)]
+struct Stations<'a> {
+    root: u8,
+    k: u8,
+    sets: &'a [u64; 64],
+    ghost few: { k ≤ 64 },
+    ghost rooted: { root < k },
+}
+
+impl Stations<'_> {
+    // The root, and the stations with a neighbour that is reached.
+    fn round(&self, reached: u64) -> u64
+        ensures { result ≡ Parts.round_of self.now.root self.now.k self.now.sets.now reached }
+    {
+        let mut out: u64 = 0;
+        for i in 0..self.k {
+            let near = is_near(self.root, self.sets[i as usize], reached, i);
+            out += bit_if(near, i);
         }
-        reached = next;
+        out
     }
-    reached
-}
 
-// The rules over all stations: the first that is broken, and by whom. The namers of a station are those that name it.
-fn judge(root: u8, k: u8, sets: &[u64; 64], namers: &[u64; 64]) -> Result<(), Fault>
-    requires { (Set.is_station_count k ≡ true) × (root < k) × Matrix.Transposed sets.now namers.now }
-    ensures { Acceptance.verdict_numbers result ≡ Acceptance.verdict_of root k sets.now }
-{
-    over_all(k, |i| !is_within(sets[i as usize], k), Fault::Beyond)?;
-    over_all(k, |i| contains(sets[i as usize], i), Fault::Itself)?;
-    over_all(
-        k,
-        |i| sets[i as usize] & namers[i as usize] != sets[i as usize],
-        Fault::OneWay,
-    )?;
-    let reached = reach(root, k, sets);
-    over_all(k, |i| !contains(reached, i), Fault::Apart)
+    // The stations that a chain of links joins to the root; no round finds more after one that finds none.
+    fn reach(&self) -> u64
+        ensures { result ≡ Parts.reached_of self.now.root self.now.k self.now.sets.now }
+    {
+        let mut reached: u64 = 0;
+        for _ in 0..self.k {
+            let next = self.round(reached);
+            if next == reached {
+                return reached;
+            }
+            reached = next;
+        }
+        reached
+    }
+
+    // The rules over all stations: the first that is broken, and by whom. The namers of a station are those that name it.
+    fn judge(&self) -> Result<(), Fault>
+        ensures { Acceptance.verdict_numbers result ≡ Acceptance.verdict_of self.now.root self.now.k self.now.sets.now }
+    {
+        let k = self.k;
+        let sets = self.sets;
+        let namers = matrix::transpose(sets);
+        over_all(k, |i| !is_within(sets[i as usize], k), Fault::Beyond)?;
+        over_all(k, |i| contains(sets[i as usize], i), Fault::Itself)?;
+        over_all(
+            k,
+            |i| sets[i as usize] & namers[i as usize] != sets[i as usize],
+            Fault::OneWay,
+        )?;
+        let reached = self.reach();
+        over_all(k, |i| !contains(reached, i), Fault::Apart)
+    }
+
+    // The pairs of a station and a lower one that it names.
+    fn count_links(&self) -> u32
+        ensures { result ≡ Links.links self.now.k (Acceptance.linked self.now.k self.now.sets.now) }
+    {
+        let mut total: u32 = 0;
+        for i in 0..self.k {
+            total += count_below(self.sets[i as usize], i);
+        }
+        total
+    }
 }
 
 // The first rule that is broken, and by whom.
@@ -134,29 +166,7 @@ pub fn accept(root: u8, k: u8, sets: &[u64; 64]) -> Result<(), Fault>
     if k <= root {
         return Err(Fault::Desk);
     }
-    let namers = matrix::transpose(sets);
-    judge(root, k, sets, &namers)
-}
-
-// How many stations below i are in the set.
-fn count_below(set: u64, i: u8) -> u32
-    requires { i < 64 }
-    ensures { result ≡ Parts.count_below i set }
-{
-    let low = set % (1u64 << i);
-    size(low) as u32
-}
-
-// The pairs of a station and a lower one that it names.
-fn count_links(k: u8, sets: &[u64; 64]) -> u32
-    requires { k ≤ 64 }
-    ensures { result ≡ Links.links k (Acceptance.linked k sets.now) }
-{
-    let mut total: u32 = 0;
-    for i in 0..k {
-        total += count_below(sets[i as usize], i);
-    }
-    total
+    Stations { root, k, sets }.judge()
 }
 
 // The number of links of an accepted map; any other is refused as `accept` refuses it.
@@ -164,5 +174,5 @@ pub fn links(root: u8, k: u8, sets: &[u64; 64]) -> Result<u32, Fault>
     ensures { Acceptance.links_numbers result ≡ Acceptance.links_of root k sets.now }
 {
     accept(root, k, sets)?;
-    Ok(count_links(k, sets))
+    Ok(Stations { root, k, sets }.count_links())
 }

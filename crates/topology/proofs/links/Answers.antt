@@ -8,7 +8,7 @@ use Rattle.std.proofs.lemmas.Result.{err_from_is_err_and}
 use Rattle.topology.specs.Answer.{is_accepted}
 use Rattle.topology.specs.Acceptance.{fault_numbers, links_numbers, verdict_of, links_of}
 use Rattle.topology.proofs.Answers.{fault_refuses}
-use Rattle.topology.proofs.Webs.{accepted_web}
+use Rattle.topology.proofs.Webs.{accepted_web, web_root}
 use Rattle.topology.proofs.links.Goals as goal
 use Rattle.topology.proofs.links.Goals.{In_ok-accept}
 
@@ -22,8 +22,10 @@ returns-in_err-accept c =
     let told : fault_numbers c.in_err-accept.field-0.0 ≡ _ = c.in_err-accept.ensures in
     rw (p.1, p.2, ap is_accepted (sym told) ∙ fault_refuses c.in_err-accept.field-0.0) told
 
-pub count_links-requires : goal.count_links-requires
-count_links-requires c = (accepted_web _ _ _ (is_accepted_lem (goal.at.count_links-requires c).In_ok-accept)).few_stations
+pub invariant_of-count_links : goal.invariant_of-count_links
+invariant_of-count_links c =
+    let web = accepted_web _ _ _ (is_accepted_lem (goal.at.invariant_of-count_links c).In_ok-accept) in
+    record { few = web.few_stations; rooted = web_root _ _ _ web }
 
 pub returns : goal.returns
 unfolding links_of

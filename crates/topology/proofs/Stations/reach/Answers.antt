@@ -1,4 +1,4 @@
--- `topology::reach` meets its contract. Invariant: the set of the stations that fewer than t links join to the root; a round that
+-- `topology::Stations::reach` meets its contract. Invariant: the set of the stations that fewer than t links join to the root; a round that
 -- leaves it as it is leaves it to the end. Assumes nothing.
 use mathlib.Core.Path.{◌≡◌, sym, ap, ◌∙◌}
 use Prim.Native.Nat.{ℕ, ◌+◌, ◌-◌}
@@ -7,16 +7,16 @@ use Rattle.topology.specs.Acceptance.{linked, near}
 use Rattle.bitset.specs.Internal.Selected.{set_of}
 use Rattle.topology.specs.Internal.Parts.{round_of}
 use Rattle.topology.proofs.Sets.{round_near, round_zero, rounds_settle}
-use Rattle.topology.proofs.reach.Goals as goal
+use Rattle.topology.proofs.Stations.reach.Goals as goal
 
 pub loop-init : goal.loop-init
-loop-init c = round_zero c.args.root c.args.k (linked c.args.k c.args.sets.now)
+loop-init c = round_zero c.args.self.now.root c.args.self.now.k (linked c.args.self.now.k c.args.self.now.sets.now)
 
 pub returns-then-next-reached : goal.returns-then-next-reached
 returns-then-next-reached c =
-    let root = c.args.root in
-    let k = c.args.k in
-    let sets = c.args.sets.now in
+    let root = c.args.self.now.root in
+    let k = c.args.self.now.k in
+    let sets = c.args.self.now.sets.now in
     let t = c.loop.counter in
     let whole : t + (k - t) ≡ k = omega arith in
     let still = ap (round_of root k sets) (sym c.loop.invariant)
@@ -29,7 +29,7 @@ returns-then-next-reached c =
 
 pub loop-preserved : goal.loop-preserved
 loop-preserved c =
-    let root = c.args.root in
-    let k = c.args.k in
-    let sets = c.args.sets.now in
+    let root = c.args.self.now.root in
+    let k = c.args.self.now.k in
+    let sets = c.args.self.now.sets.now in
     c.round-next.ensures ∙ ap (round_of root k sets) c.loop.invariant ∙ round_near root k sets c.loop.counter

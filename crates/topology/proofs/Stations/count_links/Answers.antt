@@ -1,4 +1,4 @@
--- `topology::count_links` meets its contract. Invariant: the links between stations below i. Assumes nothing.
+-- `topology::Stations::count_links` meets its contract. Invariant: the links between stations below i. Assumes nothing.
 use mathlib.Core.Path.{◌≡◌, refl}
 use mathlib.Core.List.{List}
 use Prim.Native.Nat.{ℕ, ◌+◌, ◌<◌}
@@ -12,7 +12,7 @@ use Rattle.finite.specs.Links.{links}
 use Rattle.bitset.specs.Set.{member}
 use Rattle.topology.specs.Acceptance.{linked}
 use Rattle.topology.specs.Internal.Parts.{count_below}
-use Rattle.topology.proofs.count_links.Goals as goal
+use Rattle.topology.proofs.Stations.count_links.Goals as goal
 
 -- one station more has its links to the stations below it
 links_more : (k : ℕ) (sets : List ℕ) (i : ℕ) → i < k
@@ -26,11 +26,11 @@ loop-i-init c = (omega arith, refl)
 
 pub overflow_add-total : goal.overflow_add-total
 overflow_add-total c =
-    omega (arith, c.count_below-total.ensures, indicators_le c.loop-i.i (λ j. member j (get_or c.args.sets.now c.loop-i.i 0)))
+    omega (arith, c.count_below-total.ensures, indicators_le c.loop-i.i (λ j. member j (get_or c.args.self.now.sets.now c.loop-i.i 0)))
 
 pub loop-i-preserved : goal.loop-i-preserved
 loop-i-preserved c =
-    let sets = c.args.sets.now in (
+    let sets = c.args.self.now.sets.now in (
       omega (arith, c.count_below-total.ensures, indicators_le c.loop-i.i (λ j. member j (get_or sets c.loop-i.i 0))),
-      omega (arith, c.loop-i.invariant.1, c.count_below-total.ensures, links_more c.args.k sets c.loop-i.i (omega arith)),
+      omega (arith, c.loop-i.invariant.1, c.count_below-total.ensures, links_more c.args.self.now.k sets c.loop-i.i (omega arith)),
     )

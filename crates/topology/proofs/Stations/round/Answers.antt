@@ -1,4 +1,4 @@
--- `topology::round` meets its contract. Invariant: the set of the stations below i that are near. Assumes nothing.
+-- `topology::Stations::round` meets its contract. Invariant: the set of the stations below i that are near. Assumes nothing.
 use mathlib.Core.Path.{◌≡◌, refl, ap, ◌∙◌}
 use mathlib.Core.Bool.{Bool}
 use Prim.Native.Nat.{ℕ, ◌+◌, ◌<◌, ◌^◌}
@@ -8,11 +8,11 @@ use Rattle.bitset.specs.Set.{bit_if}
 use Rattle.bitset.specs.Internal.Selected.{set_of}
 use Rattle.bitset.proofs.Selected.{set_next}
 use Rattle.topology.specs.Internal.Parts.{near_by}
-use Rattle.topology.proofs.round.Goals as goal
+use Rattle.topology.proofs.Stations.round.Goals as goal
 
 abbrev test : goal.After-bit_if-out → ℕ → Bool
 test c x =
-    near_by c.args.root (get_or c.args.sets.now x 0) c.args.reached x
+    near_by c.args.self.now.root (get_or c.args.self.now.sets.now x 0) c.args.reached x
 
 -- a turn adds station i, if it is near
 next : (c : goal.After-bit_if-out)
