@@ -12,19 +12,21 @@ use schedule::Step;
 use station::Station;
 
 // Whether totals are carried back in the net: 0 without, 1 with.
+#[tactic(auto, unfolding(stations::specs::Words::spare_in))]
 pub(crate) fn carrying_in(net: &[u64; 705]) -> u8
     ensures { result ≡ carrying_in net.now }
 {
-    let w = net[0];
-    (w / 4294967296 % 256) as u8
+    let [_, _, _, _, flag, ..] = net[0].to_le_bytes();
+    flag
 }
 
 // A first word with another flag.
 fn flag_word(w: u64, carrying: bool) -> u64
     ensures { result ≡ (w / 2 ^ 40 * 2 ^ 8 + cond carrying 1 0) * 2 ^ 32 + w % 2 ^ 32 }
 {
-    let flag = if carrying { 1 } else { 0 };
-    (w / 1099511627776 * 256 + flag) * 4294967296 + w % 4294967296
+    let mut bytes = w.to_le_bytes();
+    bytes[4] = u8::from(carrying);
+    u64::from_le_bytes(bytes)
 }
 
 // The net opened for carrying back, or not.
@@ -55,7 +57,8 @@ pub(crate) fn is_carrying_place(t: Config, i: u8, s: Station, totals: &[u64; 576
     station & (is_told_well(t, i, s) & aggregate::is_bounded(t, kept))
 }
 
-// The place of a station, which a compiler sees to be one: so it tests nothing where the station is read and stored.
+// The place of a station, which a compiler sees to be one: so it tests nothing where the station is read and stored. Two contracts here ask that
+// i is below 64: a type for a place would be made of a number at each call, and prove the same there.
 pub(crate) fn place(i: u8) -> u8
     requires { i < 64 }
     ensures { result ≡ i }
