@@ -1,20 +1,13 @@
--- Rows that follow a step: those of a sender are stored anew, and the step leaves those of all senders but its two stations. Assumes nothing.
+-- Rows that follow a step: it leaves those of all senders but its two stations. Assumes nothing.
 use mathlib.Core.Path.{◌≡◌, ◌∙◌}
-use mathlib.Core.Bool.{Bool}
-use mathlib.Core.Logic.{◌⊎◌}
 use mathlib.Core.List.{List}
-use Prim.Native.Nat.{ℕ, ◌+◌, ◌≤◌, ◌<◌, ◌^◌}
-use native.Mathlib.Nat.{lt_of_le_of_lt}
+use Prim.Native.Nat.{ℕ, ◌+◌, ◌≤◌, ◌<◌}
 use native.Mathlib.Omega.{arith}
 use lib.ListN.{get_or, set}
 use lib.Seq.{get_or-set_other}
-use lib.Bits.{bit_and, and_le_r}
 use lib.Dec.{eqb}
 use borrow.Author.Tests.{ne_eqb}
 use Rattle.finite.proofs.Cases.{by_bool, by_eq}
-use Rattle.bitset.proofs.Laws.{without-le}
-use Rattle.bitset.proofs.Selected.{bit-lt}
-use Rattle.bitset.proofs.Unions.{union-lt}
 use Rattle.aggregate.specs.declared.Config.{Config}
 use Rattle.aggregate.specs.Aggregate.{root_of, nothing}
 use Rattle.station.specs.declared.Station.{Station}
@@ -23,29 +16,13 @@ use Rattle.stations.specs.Stations.{no_station}
 use Rattle.schedule.specs.declared.Step.{Step}
 use Rattle.schedule.specs.declared.rows.Sizes.{Sizes}
 use Rattle.schedule.specs.Internal.Rows.{Others}
-use Rattle.schedule.proofs.Resizing.{rows_anew_lem}
 use Rattle.mail.specs.declared.Mailbox.TheVariants.{Empty}
-use Rattle.mail.specs.Mail.{starts_of, answers_of, with_box}
+use Rattle.mail.specs.Mail.{with_box}
 use Rattle.mail.proofs.Laws.{word_box, word_starts}
 use Rattle.mailbox.specs.declared.listing.Takers.{Takers}
 use Rattle.mailbox.specs.Delivery.{must_answer, boxes_after, boxes_settled}
-use Rattle.mailbox.specs.Internal.Receivers.{root_reports, deliverable, receivers_of, HoldReceivers, AnySender, rows_anew, sizes_anew, boxes_made}
-use Rattle.mailbox.specs.Rules.{delivery, report}
-
--- ---- a sender's rows, stored anew
-module _ (root : ℕ) (takers : Takers) (reports : Bool) (boxes : List ℕ) (wide : (takers.starts < 2 ^ 64) × (takers.answers < 2 ^ 64)) where
-  receivers_lt : (kind s : ℕ) → receivers_of root takers reports boxes kind s < 2 ^ 64
-  unfolding receivers_of deliverable
-  receivers_lt kind s =
-      let starts : bit_and (starts_of boxes s) takers.starts < 2 ^ 64 = lt_of_le_of_lt (and_le_r (starts_of boxes s) takers.starts) wide.0 in
-      let answers : bit_and (answers_of boxes s) takers.answers < 2 ^ 64 = lt_of_le_of_lt (and_le_r (answers_of boxes s) takers.answers) wide.1 in
-      by_bool (eqb kind delivery)
-      (λ t. rw t (lt_of_le_of_lt (without-le s _) (union-lt 64 _ _ starts answers)))
-      (λ f. by_bool (eqb kind report) (λ t. rw (f, t) (bit-lt _ s)) (λ g. rw (f, g) (omega arith)))
-
-  pub held_anew : {those : ℕ → Type 0} {k : ℕ} {rows : List ℕ} {z : Sizes} → k ≤ 64 → HoldReceivers those k root takers reports boxes rows z → (j : ℕ) → j < k
-      → HoldReceivers (λ s. those s ⊎ (s ≡ j)) k root takers reports boxes (rows_anew root takers reports boxes j rows) (sizes_anew root takers reports boxes j rows z)
-  held_anew few H j low = rows_anew_lem H few j low (λ kind h l. receivers_lt kind j)
+use Rattle.mailbox.specs.Internal.Receivers.{root_reports, receivers_of, HoldReceivers, AnySender, boxes_made}
+use Rattle.mailbox.specs.Rules.{delivery}
 
 -- ---- a step leaves the sets of every sender but its two stations
 module _ (t : Config) (boxes : List ℕ) (s : Step) (receiver : Station) (i : ℕ) (low : i < 128) (n : i ≡ s.sender → ⊥) (m : i ≡ 64 + s.sender → ⊥)

@@ -2,14 +2,14 @@
 ghost use Rattle.std.specs.Prelude.{◌≡◌, ◌≤◌, ◌<◌};
 ghost use Rattle.aggregate.specs.Aggregate.{root_of};
 ghost use Rattle.stations.specs.Words.{stations_in};
-ghost use Rattle.schedule.specs.Internal.Rows.{Others};
+ghost use Rattle.schedule.specs.Internal.Rows.{AreFour, Others};
 ghost use Rattle.mailbox.specs.Internal.Receivers as Rules;
 
 use crate::delivery::may_report;
 use aggregate::Config;
 use bitset::bit_if;
-use schedule::Step;
-use schedule::rows::Sizes;
+use schedule::rows::{Four, Sizes};
+use schedule::{Step, rows};
 use station::Station;
 
 // The stations that take a start, and those that take an answer.
@@ -66,7 +66,27 @@ fn find_deliverable(sender: u8, starts: u64, answers: u64, takers: Takers) -> u6
     bitset::without(all, sender)
 }
 
-// The rows of who can take what the mailboxes hold, and of the report, stored, and their sizes. A sender has four rows; two stay empty.
+// The rows of a sender: who can take what its mailboxes hold, and the report. Two stay empty. Rows and sizes are two values, no struct: the
+// search takes them as two, and its promise, which README names, would name both fields all the same.
+#[tactic(auto, unfolding(crate::specs::Internal::Receivers::receivers_of))]
+fn find_four(root: u8, takers: Takers, reports: bool, boxes: &[u64; 36992], sender: u8) -> Four
+    requires { sender < 64 }
+    ensures { AreFour (λ kind. Rules.receivers_of root takers reports boxes.now kind sender) result }
+{
+    let s = sender as usize;
+    let starts = boxes[s];
+    let answers = boxes[64 + s];
+    let first = find_deliverable(sender, starts, answers, takers);
+    let second = bit_if((sender == root) & reports, sender);
+    Four {
+        first: first,
+        second: second,
+        third: 0,
+        fourth: 0,
+    }
+}
+
+// The rows of every sender, stored, and their sizes.
 pub(crate) fn fill(
     rows: &mut [u64; 256],
     t: Config,
@@ -79,49 +99,12 @@ pub(crate) fn fill(
 {
     let k = t.k;
     let root = aggregate::root(t);
-    let mut sizes = schedule::rows::no_sizes();
+    let mut sizes = rows::no_sizes();
     for sender in 0..k {
-        let s = sender as usize;
-        let starts = boxes[s];
-        let answers = boxes[64 + s];
-        let a = find_deliverable(sender, starts, answers, takers);
-        let b = bit_if((sender == root) & reports, sender);
-        let at = 4 * s;
-        rows[at] = a;
-        rows[at + 1] = b;
-        rows[at + 2] = 0;
-        rows[at + 3] = 0;
-        sizes = schedule::rows::add(sizes, a, b, 0, 0);
+        let four = find_four(root, takers, reports, boxes, sender);
+        sizes = rows::store(rows, sizes, sender, four);
     }
     sizes
-}
-
-// The rows of one sender, stored anew, and the sizes with them. They are two values, no struct: between `remove` and `add` they don't agree.
-fn refill(
-    rows: &mut [u64; 256],
-    sizes: Sizes,
-    t: Config,
-    takers: Takers,
-    reports: bool,
-    boxes: &[u64; 36992],
-    sender: u8,
-) -> Sizes
-    requires { sender < 64 }
-    ensures rows { rows.new ≡ Rules.rows_anew (root_of t) takers reports boxes.now sender rows.old }
-    ensures sizes { result ≡ Rules.sizes_anew (root_of t) takers reports boxes.now sender rows.old sizes }
-{
-    let s = sender as usize;
-    let starts = boxes[s];
-    let answers = boxes[64 + s];
-    let a = find_deliverable(sender, starts, answers, takers);
-    let b = bit_if((sender == aggregate::root(t)) & reports, sender);
-    let at = 4 * s;
-    let rest = schedule::rows::remove(sizes, rows[at], rows[at + 1], rows[at + 2], rows[at + 3]);
-    rows[at] = a;
-    rows[at + 1] = b;
-    rows[at + 2] = 0;
-    rows[at + 3] = 0;
-    schedule::rows::add(rest, a, b, 0, 0)
 }
 
 // The rows after a step, where they held those before it. Where the step changed who takes a message, every sender's are found anew; else
@@ -141,8 +124,11 @@ pub(crate) fn follow(
     ensures { Rules.HoldReceivers Rules.AnySender t.k (root_of t) takers reports boxes.now rows.new result }
 {
     if takers == old {
-        let one = refill(rows, sizes, t, takers, reports, boxes, step.sender);
-        return refill(rows, one, t, takers, reports, boxes, step.receiver);
+        let root = aggregate::root(t);
+        let sent = find_four(root, takers, reports, boxes, step.sender);
+        let one = rows::replace(rows, sizes, step.sender, sent);
+        let received = find_four(root, takers, reports, boxes, step.receiver);
+        return rows::replace(rows, one, step.receiver, received);
     }
     fill(rows, t, takers, reports, boxes)
 }

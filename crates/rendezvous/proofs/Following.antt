@@ -4,10 +4,10 @@ use mathlib.Core.Path.{◌≡◌, sym, ◌∙◌, ap}
 use mathlib.Core.Bool.{Bool, true, false, ◌&&◌}
 use mathlib.Core.Logic.{◌⊎◌, inl, inr}
 use mathlib.Core.List.{List}
-use Prim.Native.Nat.{ℕ, ◌+◌, ◌≤◌, ◌<◌, ◌^◌}
+use Prim.Native.Nat.{ℕ, ◌+◌, ◌<◌, ◌^◌}
+use native.Mathlib.Nat.{lt_of_le_of_lt}
 use native.Mathlib.Omega.{arith}
-use lib.Dec.{eqb}
-use lib.Bits.{bit_and}
+use lib.Bits.{bit_and, and_le_r}
 use borrow.Author.Tests.{lt-ltb, ne_eqb}
 use Rattle.finite.proofs.Cases.{by_bool, by_eq, by-sum, eqb_self, or_left, or_right, clash}
 use Rattle.bitset.specs.Set.{member, union, bit_if, put}
@@ -18,31 +18,15 @@ use Rattle.aggregate.specs.declared.Config.{Config}
 use Rattle.station.specs.declared.Station.{Station}
 use Rattle.schedule.specs.declared.Step.{Step}
 use Rattle.schedule.specs.declared.rows.Sizes.{Sizes}
-use Rattle.schedule.specs.Internal.Rows.{sizes_without, Others}
-use Rattle.schedule.proofs.Resizing.{rows_anew_lem, hold_those, others_or_two}
+use Rattle.schedule.specs.Internal.Rows.{Others}
+use Rattle.schedule.proofs.Resizing.{hold_those, others_or_two}
 use Rattle.rendezvous.specs.declared.listing.States.{States}
 use Rattle.rendezvous.specs.declared.listing.Sends.{Sends}
-use Rattle.rendezvous.specs.Figure.{wake, pass, answer}
-use Rattle.rendezvous.specs.Internal.Receivers.{takers_in, kept_at, Agree, Renewed, HasRows, HoldTakers, HoldSome}
+use Rattle.rendezvous.specs.Internal.Receivers.{takers_in, kept_at, Agree, Renewed, HoldTakers, HoldSome}
 use Rattle.rendezvous.proofs.Kept.{stored_other}
-use Rattle.rendezvous.proofs.Filling.{and_lt}
 
-takers-lt : (kind : ℕ) (x : Sends) (states : States) → (states.asleep < 2 ^ 64) × (states.active < 2 ^ 64) × (x.report < 2 ^ 64)
-    → takers_in kind x states < 2 ^ 64
-unfolding takers_in
-takers-lt kind x states fits =
-    by_bool (eqb kind wake) (λ t. rw t (and_lt x.starts states.asleep fits.0))
-    (λ f. by_bool (eqb kind pass) (λ t. rw (f, t) (and_lt x.starts states.active fits.1))
-    (λ g. by_bool (eqb kind answer) (λ t. rw (f, g, t) (and_lt x.home states.active fits.1))
-    (λ h. rw (f, g, h) fits.2)))
-
--- the rows of sender j are stored anew
-pub held_anew : {those : ℕ → Type 0} {k : ℕ} {states : States} {sent : ℕ → Sends} {rows : List ℕ} {z : Sizes} → k ≤ 64
-    → HoldSome those k states sent rows z → (j : ℕ) → j < k → {rows' : List ℕ} {z' : Sizes} → HasRows j (sent j) states rows (sizes_without j rows z) rows' z'
-    → HoldSome (λ s. those s ⊎ (s ≡ j)) k states sent rows' z'
-unfolding takers_in
-held_anew {states = states} {sent = sent} few H j low A =
-    record { hold = rw (A.stored, A.counted) (rows_anew_lem H.hold few j low (λ kind h l. takers-lt kind (sent j) states A.fits)) }
+and_lt : (a set : ℕ) → set < 2 ^ 64 → bit_and a set < 2 ^ 64
+and_lt a set h = lt_of_le_of_lt (and_le_r a set) h
 
 pub hold_all : {those : ℕ → Type 0} {k : ℕ} {states : States} {sent : ℕ → Sends} {rows : List ℕ} {z : Sizes}
     → ((s : ℕ) → s < k → those s) → HoldSome those k states sent rows z → HoldTakers k states sent rows z
@@ -144,11 +128,11 @@ module _ (set : ℕ) {k : ℕ} {states : States} {sent : ℕ → Sends} {rows : 
             (λ q. inr q));
       }
 
-  pub passed_anew : {x : ℕ} {rows' : List ℕ} {z' : Sizes} → k ≤ 64 → x < k → HoldSome (Passed set sent x) k states sent rows z
-      → HasRows x (sent x) states rows (sizes_without x rows z) rows' z' → HoldSome (Passed set sent (x + 1)) k states sent rows' z'
-  passed_anew {x} few low H A =
+  pub passed_anew : {x : ℕ} → HoldSome (λ s. Passed set sent x s ⊎ (s ≡ x)) k states sent rows z
+      → HoldSome (Passed set sent (x + 1)) k states sent rows z
+  passed_anew {x} H =
       record {
-        hold = hold_those (held_anew few H x low A).hold (λ s m t. by-sum t
+        hold = hold_those H.hold (λ s m t. by-sum t
             (λ l. by_eq s x (λ q. inr q) (λ n. inl (inl (omega (arith, l, n)))))
             (λ q. inl (inr q)));
       }

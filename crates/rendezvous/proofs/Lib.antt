@@ -3,7 +3,6 @@ pub mod Flags
 pub mod RowSets
 pub mod Tells
 pub mod Kept
-pub mod Filling
 pub mod Following
 pub mod Settled
 pub mod Laws

@@ -2,19 +2,19 @@
 ghost use Rattle.std.specs.Prelude.{◌≡◌, List, ℕ, ◌≤◌, ◌<◌, length, eqb};
 ghost use Rattle.schedule.specs.Listing.{listed};
 ghost use Rattle.schedule.specs.Draws.{picked};
-ghost use Rattle.schedule.specs.Internal.Rows.{sizes_without, Others, Filled};
+ghost use Rattle.schedule.specs.Internal.Rows.{AreFour, Others, Filled};
 ghost use Rattle.stations.specs.Stations.{station_at};
 ghost use Rattle.stations.specs.Words.{stations_in};
 ghost use Rattle.rendezvous.specs.Net.{net_in, carrying_in};
 ghost use Rattle.rendezvous.specs.Rules.{rules};
 ghost use Rattle.rendezvous.specs.Internal.Receivers.{restated, sends_of, kept_at, Read};
-ghost use Rattle.rendezvous.specs.Internal.Receivers.{Agree, Renewed, Surveyed, HasRows, HoldTakers, HoldSome};
+ghost use Rattle.rendezvous.specs.Internal.Receivers.{Agree, Renewed, Surveyed, takers_in, HoldTakers, HoldSome};
 
 use crate::{CARRYING, form, telling};
 use aggregate::Config;
 use bitset::bit_if;
-use schedule::Step;
-use schedule::rows::Sizes;
+use schedule::rows::{Four, Sizes};
+use schedule::{Step, rows};
 use station::Station;
 
 // The stations that can take a start, and of these the ones that can take an answer.
@@ -121,32 +121,18 @@ pub(crate) fn survey(
     })
 }
 
-// The rows of a sender, stored, and the sizes with them: of what it may send, what stations in these states can take. Most may send nothing.
-// Rows and sizes are two values, no struct: between `remove` and `add` they don't agree, so a struct would have no invariant to say, and its
-// clauses would name both all the same.
-fn put_rows(rows: &mut [u64; 256], sizes: Sizes, states: States, sender: u8, sends: Sends) -> Sizes
-    requires { sender < 64 }
-    ensures { HasRows sender sends states rows.old sizes rows.new result }
+// The rows of a sender: of what it may send, what stations in these states can take. Rows and sizes are two values, no struct: the search takes
+// them as two, and its promise, which README names, would name both fields all the same.
+#[tactic(auto, unfolding(crate::specs::Internal::Receivers::takers_in))]
+fn find_four(sends: Sends, states: States) -> Four
+    ensures { AreFour (λ kind. takers_in kind sends states) result }
 {
-    let at = 4 * (sender as usize);
-    let starts = sends.starts;
-    let home = sends.home;
-    let report = sends.report;
-    if (starts == 0) & (home == 0) & (report == 0) {
-        rows[at] = 0;
-        rows[at + 1] = 0;
-        rows[at + 2] = 0;
-        rows[at + 3] = 0;
-        return schedule::rows::add(sizes, 0, 0, 0, 0);
+    Four {
+        first: sends.starts & states.asleep,
+        second: sends.starts & states.active,
+        third: sends.home & states.active,
+        fourth: sends.report,
     }
-    let wakes = starts & states.asleep;
-    let passes = starts & states.active;
-    let answers = home & states.active;
-    rows[at] = wakes;
-    rows[at + 1] = passes;
-    rows[at + 2] = answers;
-    rows[at + 3] = report;
-    schedule::rows::add(sizes, wakes, passes, answers, report)
 }
 
 // The rows of what is kept, stored, and their sizes.
@@ -154,30 +140,12 @@ pub(crate) fn fill(rows: &mut [u64; 256], k: u8, kept: &[Sends; 64], states: Sta
     requires { k ≤ 64 }
     ensures { HoldTakers k states (kept_at kept.now) rows.new result }
 {
-    let mut sizes = schedule::rows::no_sizes();
+    let mut sizes = rows::no_sizes();
     for sender in 0..k {
         let sends = kept[sender as usize];
-        sizes = put_rows(rows, sizes, states, sender, sends);
+        sizes = rows::store(rows, sizes, sender, find_four(sends, states));
     }
     sizes
-}
-
-// The rows of one sender, stored anew, and the sizes with them.
-fn refill(
-    rows: &mut [u64; 256],
-    sizes: Sizes,
-    kept: &[Sends; 64],
-    states: States,
-    sender: u8,
-) -> Sizes
-    requires { sender < 64 }
-    ensures { HasRows sender (kept_at kept.now sender) states rows.old (sizes_without sender rows.old sizes)
-        rows.new result }
-{
-    let at = 4 * (sender as usize);
-    let rest = schedule::rows::remove(sizes, rows[at], rows[at + 1], rows[at + 2], rows[at + 3]);
-    let sends = kept[sender as usize];
-    put_rows(rows, rest, states, sender, sends)
 }
 
 // Below so many stations, all rows are found anew sooner than those are found that a change of states changes.
@@ -203,8 +171,10 @@ pub(crate) fn follow(
     if !same & (k < FEW) {
         return fill(rows, k, kept, states);
     }
-    let one = refill(rows, sizes, kept, states, step.sender);
-    let mut all = refill(rows, one, kept, states, step.receiver);
+    let sent = find_four(kept[step.sender as usize], states);
+    let one = rows::replace(rows, sizes, step.sender, sent);
+    let received = find_four(kept[step.receiver as usize], states);
+    let mut all = rows::replace(rows, one, step.receiver, received);
     if same {
         return all;
     }
@@ -213,7 +183,7 @@ pub(crate) fn follow(
         let sends = kept[x as usize];
         let met = bitset::union(sends.starts, sends.home) & both;
         if met != 0 {
-            all = refill(rows, all, kept, states, x);
+            all = rows::replace(rows, all, x, find_four(sends, states));
         }
     }
     all
@@ -236,7 +206,7 @@ fn choose_beside(
 {
     let mut tells = [0u64; 260];
     telling::fill_tells(&mut tells, net, t);
-    schedule::rows::pick_beside(rows, sizes, &tells, t.k, d)
+    rows::pick_beside(rows, sizes, &tells, t.k, d)
 }
 
 // The step that a draw picks.
@@ -254,5 +224,5 @@ pub(crate) fn choose(
     if form::carrying_in(net) == CARRYING {
         return choose_beside(net, rows, sizes, t, d);
     }
-    schedule::rows::pick(rows, sizes, t.k, d)
+    rows::pick(rows, sizes, t.k, d)
 }

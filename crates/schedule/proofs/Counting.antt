@@ -1,7 +1,8 @@
 -- Rows as a loop over the senders stores them, four a sender, and counts them: the rows of the senders below n stand, and the sizes are
 -- theirs. Assumes nothing.
-use Rattle.std.proofs.Common.{◌≡◌, ℕ, zero, suc, ◌+◌, ◌-◌, ◌*◌, ◌%◌, ◌^◌, ◌<◌, ◌≤◌, List, length, get_or, set, sym, refl, ap, ◌∙◌, add-zero, mod-eq_of_lt, add-one, arith, length-append, length-set, get_or-set_other, get_or-set_same}
+use Rattle.std.proofs.Common.{◌≡◌, ℕ, zero, suc, ◌+◌, ◌-◌, ◌*◌, ◌%◌, ◌^◌, ◌<◌, ◌≤◌, List, length, get_or, set, sym, refl, ap, ◌∙◌, add-zero, mod-eq_of_lt, add-one, arith, length-append, length-set, get_or-set_other, get_or-set_same, subst}
 use mathlib.Core.List.{flat_map}
+use borrow.Author.Tests.{lt-ltb}
 use Rattle.finite.specs.Sum.{fold_to}
 use Rattle.finite.specs.Internal.Monoid.{addition, sum_to}
 use Rattle.finite.proofs.Sums.{sum_ext, sum_first}
@@ -9,9 +10,10 @@ use Rattle.finite.proofs.Cases.{by_eq}
 use Rattle.bitset.specs.Set.{size}
 use Rattle.bitset.proofs.Laws.{size-le}
 use Rattle.schedule.specs.declared.rows.Sizes.{Sizes}
+use Rattle.schedule.specs.declared.rows.Four.{Four}
 use Rattle.schedule.specs.Listing.{numbers_from, range, select}
-use Rattle.schedule.specs.Rows.{steps_from, steps_of_kind, row_at, in_rows, added, size_of}
-use Rattle.schedule.specs.Internal.Rows.{four_set, sizes_of}
+use Rattle.schedule.specs.Rows.{steps_from, steps_of_kind, row_at, in_rows, added, size_of, four_set, with_four, sizes_stored}
+use Rattle.schedule.specs.Internal.Rows.{sizes_of, AreFour, HoldRows}
 use Rattle.schedule.specs.Rows as rows
 use Rattle.schedule.proofs.Parts.{select-append}
 use Rattle.schedule.proofs.RowLists.{row_length_lem}
@@ -195,3 +197,29 @@ module _ (row : ℕ → ℕ → ℕ) where
         ← are _ 3 (omega arith) (omega arith) C.third.0,
         ← are _ 4 (omega arith) (omega arith) C.fourth.0,
       )
+
+  -- rows that a loop stores from the first sender on, with their sizes: the senders below n are done
+  pub record Filling (n : ℕ) (rows : List ℕ) (z : Sizes) : Type 0 where
+    pub stored : Stored n rows
+    pub counted : Counted n z
+
+  pub filling_none : {l : List ℕ} {z : Sizes} → length l ≡ 256 → z ≡ rows.none → Filling 0 l z
+  filling_none e q = record { stored = stored-none e; counted = subst (Counted 0) (sym q) counted_none }
+
+  pub filling_next : {n : ℕ} {rows rows' : List ℕ} {z z' : Sizes} {f : Four} → Filling n rows z → n < 64 → AreFour (λ kind. row kind n) f
+      → rows' ≡ with_four rows n f → z' ≡ sizes_stored z n f → Filling (n + 1) rows' z'
+  filling_next {n} {rows} {z = z} {f = f} F low A e q =
+      rw (e, q, lt-ltb n 64 low)
+      record {
+        stored = stored-four F.stored low A.first.0 A.second.0 A.third.0 A.fourth.0;
+        counted = counted-four F.counted low (A.first.1, A.second.1, A.third.1, A.fourth.1) A.first.0 A.second.0 A.third.0 A.fourth.0;
+      }
+
+  pub filling_all : {k : ℕ} {rows : List ℕ} {z : Sizes} → Filling k rows z → HoldRows (λ s. Unit {0}) k row rows z
+  filling_all F =
+      record {
+        sized = F.stored.sized;
+        small = λ kind s h m low. rw (F.stored.done kind s h m low) (F.counted.small kind s h m low);
+        row = λ kind s h m low t. F.stored.done kind s h m low;
+        sizes = counted-all F.stored F.counted;
+      }

@@ -1,5 +1,6 @@
 -- Rows of which those of one sender are stored anew: their sizes are those without the old ones and with the new. Assumes nothing.
 use Rattle.std.proofs.Common.{◌≡◌, ℕ, zero, suc, ◌+◌, ◌-◌, ◌*◌, ◌%◌, ◌^◌, ◌<◌, ◌≤◌, ◌⊎◌, List, length, sym, refl, ap, ◌∙◌, inl, inr, mod-eq_of_lt, arith}
+use borrow.Author.Tests.{lt-ltb}
 use Rattle.finite.specs.Sum.{fold_to}
 use Rattle.finite.specs.Internal.Monoid.{addition, sum_to}
 use Rattle.finite.proofs.Sums.{except, sum_ext, sum_extract, except-same, except-other}
@@ -8,8 +9,9 @@ use Rattle.bitset.specs.Set.{size}
 use Rattle.bitset.proofs.Laws.{size-le}
 use Rattle.schedule.specs.declared.Step.{Step}
 use Rattle.schedule.specs.declared.rows.Sizes.{Sizes}
-use Rattle.schedule.specs.Rows.{row_at, added, removed, size_of}
-use Rattle.schedule.specs.Internal.Rows.{four_set, sizes_of, sizes_without, Others, HoldRows}
+use Rattle.schedule.specs.declared.rows.Four.{Four}
+use Rattle.schedule.specs.Rows.{row_at, added, removed, size_of, sizes_without, four_set, with_four, sizes_replaced}
+use Rattle.schedule.specs.Internal.Rows.{sizes_of, AreFour, Others, HoldRows}
 use Rattle.schedule.proofs.Counting.{four-length, four_own, four-other, rows-sum}
 
 sum_most : (n : ℕ) (f : ℕ → ℕ) → ((i : ℕ) → i < n → f i ≤ 64) → sum_to addition n f ≤ 64 * n
@@ -98,6 +100,17 @@ module _ {those : ℕ → Type 0} {k : ℕ} {row_of : ℕ → ℕ → ℕ} {rows
             ∙ H.row kind s h l m (by-sum t (λ u. u) (λ e. absurd (n e))));
         sizes = sizes_anew_lem rows k few H.sized H.small j low row fits H.sizes;
       }
+
+  -- and with them the sizes, as code stores them
+  pub rows_replaced : k ≤ 64 → (j : ℕ) → j < k → {f : Four} → AreFour (λ kind. row_of kind j) f → {rows' : List ℕ} {z' : Sizes}
+      → rows' ≡ with_four rows j f → z' ≡ sizes_replaced rows z j f → HoldRows (λ s. those s ⊎ (s ≡ j)) k row_of rows' z'
+  rows_replaced few j low A e q =
+      let fits : (kind : ℕ) → 1 ≤ kind → kind ≤ 4 → row_of kind j < 2 ^ 64 =
+      λ kind h l. by_eq kind 1 (λ (t : kind ≡ 1). rw (t, ← A.first.0) A.first.1)
+      (λ n1. by_eq kind 2 (λ (t : kind ≡ 2). rw (t, ← A.second.0) A.second.1)
+      (λ n2. by_eq kind 3 (λ (t : kind ≡ 3). rw (t, ← A.third.0) A.third.1)
+      (λ n3. let t : kind ≡ 4 = omega arith in rw (t, ← A.fourth.0) A.fourth.1))) in
+      rw (e, q, lt-ltb j 64 (omega (arith, few, low)), A.first.0, A.second.0, A.third.0, A.fourth.0) (rows_anew_lem few j low fits)
 
   -- fewer senders, or others of which it is known
   pub hold_those : {these : ℕ → Type 0} → ((s : ℕ) → s < k → these s → those s) → HoldRows these k row_of rows z

@@ -1,10 +1,11 @@
 -- The list of allowed steps by rows: for each sender and kind, the set of the receivers. What the code of every kind of net searches.
-use Rattle.std.specs.Prelude.{ℕ, zero, suc, ◌+◌, ◌-◌, ◌*◌, ◌%◌, ◌^◌, Bool, cond, List, [], ◌∷◌, map, length, ◌==◌, nat_lt, slice_index, Option, None, Result, Ok, Err}
+use Rattle.std.specs.Prelude.{ℕ, zero, suc, ◌+◌, ◌-◌, ◌*◌, ◌%◌, ◌^◌, Bool, cond, List, [], ◌∷◌, map, length, ◌==◌, nat_lt, slice_index, slice_set, Option, None, Result, Ok, Err}
 use mathlib.Core.List.{flat_map}
 use Rattle.std.specs.Result.{result_ok}
 use Rattle.bitset.specs.Set.{member, size}
 use Rattle.schedule.specs.declared.Step.{Step}
 use Rattle.schedule.specs.declared.rows.Sizes.{Sizes}
+use Rattle.schedule.specs.declared.rows.Four.{Four}
 use Rattle.schedule.specs.Listing.{range, select, step}
 
 -- Parts of the list of all steps, by kind, then sender, then receiver, rising: each is taken from where a scan stands, what it has still to
@@ -53,6 +54,26 @@ unfoldable pub removed : Sizes → ℕ → ℕ → ℕ → ℕ → Sizes
 removed z a b c d =
     let less : ℕ → ℕ → ℕ = λ n row. (n + (2 ^ 32 - size row)) % 2 ^ 32 in
     record { first = less z.first a; second = less z.second b; third = less z.third c; fourth = less z.fourth d }
+
+-- the sizes without the rows of sender j
+abbrev pub sizes_without : ℕ → List ℕ → Sizes → Sizes
+sizes_without j rows z = removed z (row_at rows 1 j) (row_at rows 2 j) (row_at rows 3 j) (row_at rows 4 j)
+
+-- the rows, with the four of sender n stored
+abbrev pub four_set : List ℕ → ℕ → ℕ → ℕ → ℕ → ℕ → List ℕ
+four_set rows n a b c d = slice_set (slice_set (slice_set (slice_set rows (4 * n) a) (4 * n + 1) b) (4 * n + 2) c) (4 * n + 3) d
+
+-- the same, of the record of the four
+abbrev pub with_four : List ℕ → ℕ → Four → List ℕ
+with_four rows n f = four_set rows n f.first f.second f.third f.fourth
+
+-- the sizes with the four of sender n stored where it had none; past 64 senders none are
+abbrev pub sizes_stored : Sizes → ℕ → Four → Sizes
+sizes_stored z n f = cond (nat_lt n 64) (added z f.first f.second f.third f.fourth) z
+
+-- and stored anew, where the rows had others
+abbrev pub sizes_replaced : List ℕ → Sizes → ℕ → Four → Sizes
+sizes_replaced rows z n f = cond (nat_lt n 64) (added (sizes_without n rows z) f.first f.second f.third f.fourth) z
 
 -- all steps
 unfoldable pub total_of : Sizes → ℕ

@@ -17,6 +17,15 @@ pub struct Sizes {
     pub fourth: u32,
 }
 
+// The four rows of a sender: to whom it may send, by kind.
+#[derive(Clone, Copy)]
+pub struct Four {
+    pub first: u64,
+    pub second: u64,
+    pub third: u64,
+    pub fourth: u64,
+}
+
 // The row at a place; past the rows there is none.
 fn row_at(rows: &[u64], at: usize) -> u64
     ensures { result ≡ slice_index rows.now at }
@@ -115,6 +124,35 @@ pub fn remove(sizes: Sizes, a: u64, b: u64, c: u64, d: u64) -> Sizes
         third: wrapping_sub_u32(sizes.third, row_size(c)),
         fourth: wrapping_sub_u32(sizes.fourth, row_size(d)),
     }
+}
+
+// The four rows of a sender, stored where it has none, and the sizes with them. There are 64 senders: past them nothing is stored or counted.
+pub fn store(rows: &mut [u64; 256], sizes: Sizes, sender: u8, four: Four) -> Sizes
+    ensures rows { rows.new ≡ Rows.with_four rows.old sender four }
+    ensures sizes { result ≡ Rows.sizes_stored sizes sender four }
+{
+    if 64 <= sender {
+        return sizes;
+    }
+    let at = 4 * (sender as usize);
+    rows[at] = four.first;
+    rows[at + 1] = four.second;
+    rows[at + 2] = four.third;
+    rows[at + 3] = four.fourth;
+    add(sizes, four.first, four.second, four.third, four.fourth)
+}
+
+// The same, where the sender has rows: they are counted off.
+pub fn replace(rows: &mut [u64; 256], sizes: Sizes, sender: u8, four: Four) -> Sizes
+    ensures rows { rows.new ≡ Rows.with_four rows.old sender four }
+    ensures sizes { result ≡ Rows.sizes_replaced rows.old sizes sender four }
+{
+    if 64 <= sender {
+        return sizes;
+    }
+    let at = 4 * (sender as usize);
+    let rest = remove(sizes, rows[at], rows[at + 1], rows[at + 2], rows[at + 3]);
+    store(rows, rest, sender, four)
 }
 
 // How many steps of all kinds there are.

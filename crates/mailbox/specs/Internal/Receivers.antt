@@ -11,8 +11,7 @@ use Rattle.station.specs.Events.{active, ended}
 use Rattle.stations.specs.Stations.{station_at}
 use Rattle.schedule.specs.declared.Step.{Step}
 use Rattle.schedule.specs.declared.rows.Sizes.{Sizes}
-use Rattle.schedule.specs.Rows.{added}
-use Rattle.schedule.specs.Internal.Rows.{four_set, sizes_without, HoldRows}
+use Rattle.schedule.specs.Internal.Rows.{HoldRows}
 use Rattle.mail.specs.declared.Message.TheVariants.{Start}
 use Rattle.mail.specs.Mail.{starts_of, answers_of}
 use Rattle.mailbox.specs.declared.listing.Takers.{Takers}
@@ -77,16 +76,3 @@ HoldReceivers those k root takers reports boxes rows z = HoldRows those k (recei
 -- every sender
 abbrev pub AnySender : ℕ → Type 0
 AnySender s = Unit {0}
-
--- the rows where those of s are stored anew
-abbrev pub rows_anew : ℕ → Takers → Bool → List ℕ → ℕ → List ℕ → List ℕ
-rows_anew root takers reports boxes s rows =
-    four_set rows s (receivers_of root takers reports boxes 1 s) (receivers_of root takers reports boxes 2 s)
-    (receivers_of root takers reports boxes 3 s) (receivers_of root takers reports boxes 4 s)
-
--- the sizes with these
-abbrev pub sizes_anew : ℕ → Takers → Bool → List ℕ → ℕ → List ℕ → Sizes → Sizes
-sizes_anew root takers reports boxes s rows z =
-    added (sizes_without s rows z)
-    (receivers_of root takers reports boxes 1 s) (receivers_of root takers reports boxes 2 s)
-    (receivers_of root takers reports boxes 3 s) (receivers_of root takers reports boxes 4 s)

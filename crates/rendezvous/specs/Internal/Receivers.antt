@@ -1,6 +1,6 @@
 -- A step in its parts, and the receivers of the allowed steps, as sets: what a sender may send, which changes with the sender alone, and who can
 -- take it by the states.
-use Rattle.std.specs.Prelude.{◌≡◌, Bool, true, false, not, cond, ◌&&◌, ◌||◌, List, ℕ, ◌^◌, ◌≤◌, ◌<◌, length, get_or, set, eqb, Option, Some, None}
+use Rattle.std.specs.Prelude.{◌≡◌, Bool, true, false, not, cond, ◌&&◌, ◌||◌, List, ℕ, ◌≤◌, ◌<◌, length, get_or, set, eqb, Option, Some, None}
 use Rattle.std.specs.Int.Bits.{bit_and}
 use Rattle.bitset.specs.Set.{member, without, bit_if, put}
 use Rattle.bitset.specs.Internal.Selected.{set_of}
@@ -13,8 +13,8 @@ use Rattle.station.specs.Form as form
 use Rattle.stations.specs.Words.{config_in}
 use Rattle.schedule.specs.declared.Step.{Step}
 use Rattle.schedule.specs.declared.rows.Sizes.{Sizes}
-use Rattle.schedule.specs.Rows.{row_at, added}
-use Rattle.schedule.specs.Internal.Rows.{four_set, sizes_of, Others, HoldRows}
+use Rattle.schedule.specs.Rows.{row_at}
+use Rattle.schedule.specs.Internal.Rows.{sizes_of, Others, HoldRows}
 use Rattle.rendezvous.specs.declared.listing.States.{States}
 use Rattle.rendezvous.specs.declared.listing.Sends.{Sends}
 use Rattle.rendezvous.specs.Net.{Net, station, told, settled, told_well, well_formed}
@@ -150,17 +150,6 @@ takers_in kind x states =
     (cond (eqb kind pass) (bit_and x.starts states.active)
     (cond (eqb kind answer) (bit_and x.home states.active)
     x.report))
-
--- what f makes of a sender's four rows, kind by kind
-abbrev pub by_kind : {A : Type 0} → (ℕ → ℕ → ℕ → ℕ → A) → Sends → States → A
-by_kind f x states =
-    f (bit_and x.starts states.asleep) (bit_and x.starts states.active) (bit_and x.home states.active) x.report
-
--- the rows of sender j are stored and counted; all are words
-pub record HasRows (j : ℕ) (x : Sends) (states : States) (rows : List ℕ) (z : Sizes) (rows' : List ℕ) (z' : Sizes) : Type 0 where
-  pub stored : rows' ≡ by_kind (four_set rows j) x states
-  pub counted : z' ≡ by_kind (added z) x states
-  pub fits : (states.asleep < 2 ^ 64) × (states.active < 2 ^ 64) × (x.report < 2 ^ 64)
 
 -- the rows of what stations in these states can take, where `sent` gives what each may send, and their sizes
 pub record HoldTakers (k : ℕ) (states : States) (sent : ℕ → Sends) (rows : List ℕ) (z : Sizes) : Type 0 where

@@ -1,20 +1,17 @@
 -- What the code of a net knows of its rows: which steps they list, how many, and what changes where one sender's rows are stored anew.
-use Rattle.std.specs.Prelude.{◌≡◌, ℕ, suc, ◌+◌, ◌*◌, ◌^◌, ◌<◌, ◌≤◌, List, length, ◌≢◌, slice_set}
+use Rattle.std.specs.Prelude.{◌≡◌, ℕ, suc, ◌^◌, ◌<◌, ◌≤◌, List, length, ◌≢◌}
 use mathlib.Core.List.{flat_map}
 use Rattle.bitset.specs.Internal.Selected.{set_of}
 use Rattle.schedule.specs.declared.Step.{Step}
 use Rattle.schedule.specs.declared.rows.Sizes.{Sizes}
+use Rattle.schedule.specs.declared.rows.Four.{Four}
 use Rattle.schedule.specs.Rules.{Rules, allowed}
 use Rattle.schedule.specs.Listing.{range, select, step}
-use Rattle.schedule.specs.Rows.{steps_of_kind, row_at, in_rows, size_of, removed}
+use Rattle.schedule.specs.Rows.{steps_of_kind, row_at, in_rows, size_of}
 
 -- the steps of the kinds from `kind` on
 unfoldable pub steps_of : ℕ → ℕ → ℕ → ℕ → List Step
 steps_of w kinds k kind = flat_map (λ (kind : ℕ). steps_of_kind w k kind 0) (range kind (suc kinds))
-
--- the rows, with the four of sender n stored
-abbrev pub four_set : List ℕ → ℕ → ℕ → ℕ → ℕ → ℕ → List ℕ
-four_set rows n a b c d = slice_set (slice_set (slice_set (slice_set rows (4 * n) a) (4 * n + 1) b) (4 * n + 2) c) (4 * n + 3) d
 
 -- the steps that the rows list, by kind, then sender, then receiver, rising
 unfoldable pub listed_in : List ℕ → ℕ → ℕ → List Step
@@ -35,9 +32,12 @@ pub record Filled {Net : Type 0} (R : Rules Net) (net : Net) (rows : List ℕ) (
   pub are : AreRows R net rows
   pub sizes : z ≡ sizes_of rows (R.stations net)
 
--- the sizes without the rows of sender j
-abbrev pub sizes_without : ℕ → List ℕ → Sizes → Sizes
-sizes_without j rows z = removed z (row_at rows 1 j) (row_at rows 2 j) (row_at rows 3 j) (row_at rows 4 j)
+-- a sender's four rows, of 64 bits, are what `row` gives by kind
+pub record AreFour (row : ℕ → ℕ) (f : Four) : Type 0 where
+  pub first : (f.first ≡ row 1) × (f.first < 2 ^ 64)
+  pub second : (f.second ≡ row 2) × (f.second < 2 ^ 64)
+  pub third : (f.third ≡ row 3) × (f.third < 2 ^ 64)
+  pub fourth : (f.fourth ≡ row 4) × (f.fourth < 2 ^ 64)
 
 -- no station of the step
 abbrev pub Others : Step → ℕ → Type 0

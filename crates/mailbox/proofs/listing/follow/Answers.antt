@@ -1,16 +1,14 @@
 -- `mailbox::listing::follow` meets its contract: where nobody takes other messages than before, two senders' rows stored anew make all rows
 -- right. Assumes nothing.
 use mathlib.Core.Path.{◌≡◌, sym, ◌∙◌, ap₂}
-use Prim.Native.Nat.{ℕ, ◌^◌, ◌<◌}
-use native.Mathlib.Omega.{arith}
+use Prim.Native.Nat.{ℕ}
 use lib.Dec.{eqb}
 use borrow.Author.Tests.{eqb-true}
 use Rattle.finite.proofs.Cases.{and_both}
 use Rattle.schedule.specs.Internal.Rows.{Others}
-use Rattle.schedule.proofs.Resizing.{hold_those, others_or_two}
+use Rattle.schedule.proofs.Resizing.{rows_replaced, hold_those, others_or_two}
 use Rattle.mailbox.specs.Internal.Receivers.{HoldReceivers}
 use Rattle.aggregate.specs.Aggregate.{root_of}
-use Rattle.mailbox.proofs.Following.{held_anew}
 use Rattle.mailbox.proofs.listing.follow.Goals as goal
 use Rattle.mailbox.proofs.listing.follow.Goals.{Then-eq}
 
@@ -30,10 +28,9 @@ pub returns-then-eq : goal.returns-then-eq
 returns-then-eq c =
     let a = c.args in
     let p = c.requires.places in
-    let wide : (a.takers.starts < 2 ^ 64) × (a.takers.answers < 2 ^ 64) = (omega arith, omega arith) in
-    let old = held (goal.at.returns-then-eq c).Then-eq in
-    let one = held_anew (root_of a.t) a.takers a.reports a.boxes.now wide p.0 old a.step.sender p.1.0 in
-    let two = held_anew (root_of a.t) a.takers a.reports a.boxes.now wide p.0 one a.step.receiver p.1.1 in
-    let first = c.refill-one.ensures in
-    rw (c.refill.ensures.rows, c.refill.ensures.sizes, first.rows, first.sizes)
-    (hold_those two (λ s m t. others_or_two a.step s))
+    let old = rw (← c.root-root.ensures) at (held (goal.at.returns-then-eq c).Then-eq) in
+    let one = c.replace-one.ensures in
+    let both = c.replace.ensures in
+    let sent = rows_replaced old p.0 a.step.sender p.1.0 c.find_four-sent.ensures one.rows one.sizes in
+    let received = rows_replaced sent p.0 a.step.receiver p.1.1 c.find_four-received.ensures both.rows both.sizes in
+    rw (← c.root-root.ensures) (hold_those received (λ s m t. others_or_two a.step s))

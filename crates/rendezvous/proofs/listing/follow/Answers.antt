@@ -9,9 +9,9 @@ use borrow.Author.Tests.{eqb-true}
 use Rattle.finite.proofs.Cases.{and_both}
 use Rattle.bitset.specs.Set.{union}
 use Rattle.schedule.specs.Internal.Rows.{Others}
-use Rattle.schedule.proofs.Resizing.{others_or_two}
+use Rattle.schedule.proofs.Resizing.{rows_replaced, others_or_two}
 use Rattle.rendezvous.specs.Internal.Receivers.{kept_at, HoldSome}
-use Rattle.rendezvous.proofs.Following.{held_anew, hold_all, rows_stand, passed_none, passed_missing, passed_anew}
+use Rattle.rendezvous.proofs.Following.{hold_all, rows_stand, passed_none, passed_missing, passed_anew}
 use Rattle.rendezvous.proofs.listing.follow.Goals as goal
 use Rattle.rendezvous.proofs.listing.follow.Goals.{then-met-ne0, else-met-ne0}
 
@@ -31,8 +31,11 @@ pub returns-then-same : goal.returns-then-same
 returns-then-same c =
     let step = c.args.step in
     let p = c.requires.places in
-    let one = held_anew p.0 (held c) step.sender p.1.0 c.refill-one.ensures in
-    hold_all (λ s m. others_or_two step s) (held_anew p.0 one step.receiver p.1.1 c.refill-all.ensures)
+    let one = c.replace-one.ensures in
+    let all = c.replace-all.ensures in
+    let sent = rows_replaced (held c).hold p.0 step.sender p.1.0 c.find_four-sent.ensures one.rows one.sizes in
+    let received = rows_replaced sent p.0 step.receiver p.1.1 c.find_four-received.ensures all.rows all.sizes in
+    hold_all (λ s m. others_or_two step s) (record { hold = received })
 
 pub loop-x-init : goal.loop-x-init
 loop-x-init c =
@@ -45,16 +48,23 @@ loop-x-init c =
     let is : (a.states.asleep < 2 ^ 64) × (a.states.active < 2 ^ 64) =
     (omega arith, omega arith) in
     let stand = rows_stand step (omega (arith, p.0, p.1.0)) (omega (arith, p.0, p.1.1)) c.requires.states was is c.requires.rows in
-    let one = held_anew p.0 stand step.sender p.1.0 c.refill-one.ensures in
-    passed_none _ step set (held_anew p.0 one step.receiver p.1.1 c.refill-all.ensures)
+    let one = c.replace-one.ensures in
+    let all = c.replace-all.ensures in
+    let sent = rows_replaced stand.hold p.0 step.sender p.1.0 c.find_four-sent.ensures one.rows one.sizes in
+    let received = rows_replaced sent p.0 step.receiver p.1.1 c.find_four-received.ensures all.rows all.sizes in
+    passed_none _ step set (record { hold = received })
 
 pub loop-x-preserved : goal.loop-x-preserved
 loop-x-preserved c =
     let l = c.loop-x in
     elim c.if-met-ne0.branch [
       | then-met-ne0 w ↦
+          let next = w.replace-all-then-met-ne0.ensures in
           rw (w.rows-is, w.all-is)
-          (passed_anew _ c.requires.places.0 (omega (arith, c.loop-x-test.true)) l.invariant w.refill-all-then-met-ne0.ensures)
+          (passed_anew _ (record {
+            hold = rows_replaced l.invariant.hold c.requires.places.0 l.x (omega (arith, c.loop-x-test.true)) w.find_four.ensures
+                next.rows next.sizes;
+          }))
       | else-met-ne0 w ↦ rw (w.rows-is, w.all-is) (passed_missing _ (rw c.union.ensures at w.if-met-ne0.false) l.invariant)
     ]
 
