@@ -1,5 +1,5 @@
--- Rows that follow a step: those of a sender are stored anew, and those of a sender that may send to no station of the step stand, since only
--- these two have come to other states. Assumes nothing.
+-- Rows that follow a step: those of a sender that may send to no station of the step stand, since only these two have come to other states.
+-- Assumes nothing.
 use mathlib.Core.Path.{◌≡◌, sym, ◌∙◌, ap}
 use mathlib.Core.Bool.{Bool, true, false, ◌&&◌}
 use mathlib.Core.Logic.{◌⊎◌, inl, inr}
