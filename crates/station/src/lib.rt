@@ -65,12 +65,10 @@ impl Station {
     pub fn woken(self, j: u8) -> Station
         ensures { result ≡ Events.woken j self }
     {
-        let set = self.unstarted;
-        let rest = bitset::without(set, j);
-        let size = bitset::size(set);
+        let size = bitset::size(self.unstarted);
         Station {
             held: self.held,
-            unstarted: rest,
+            unstarted: bitset::without(self.unstarted, j),
             parent: j,
             waits: size.saturating_sub(1),
             state: ACTIVE,
@@ -149,7 +147,7 @@ impl Station {
     pub fn may_answer(self, t: Config, own: u8) -> bool
         ensures { result ≡ Events.may_answer t own self }
     {
-        !(own == aggregate::root(t)) & self.is_ready()
+        (own != aggregate::root(t)) & self.is_ready()
     }
 
     // Lines 5 and 6: it gave its sum.
@@ -166,28 +164,25 @@ impl Station {
     pub fn is_well_formed(self, t: Config, own: u8) -> bool
         ensures { result ≡ well_formed t own self }
     {
-        let k = t.k;
-        let held = self.held;
-        let set = self.unstarted;
         if FINISHED < self.state {
             return false;
         }
-        if k <= self.parent {
+        if t.k <= self.parent {
             return false;
         }
-        if !bitset::is_within(set, k) {
+        if !bitset::is_within(self.unstarted, t.k) {
             return false;
         }
         if 64 < self.waits {
             return false;
         }
-        if !aggregate::is_bounded(t, held) {
+        if !aggregate::is_bounded(t, self.held) {
             return false;
         }
-        if bitset::contains(set, own) {
+        if bitset::contains(self.unstarted, own) {
             return false;
         }
-        (own == aggregate::root(t)) | !(self.parent == own)
+        (own == aggregate::root(t)) | (self.parent != own)
     }
 }
 
@@ -209,9 +204,7 @@ impl Process {
         ensures { result ≡ well_formed_process self }
     {
         let t = self.config();
-        let own = self.own;
-        let s = self.station;
-        aggregate::is_valid(t) & (own < t.k) & s.is_well_formed(t, own)
+        aggregate::is_valid(t) & (self.own < t.k) & self.station.is_well_formed(t, self.own)
     }
 
     // The process after an event at its station.
@@ -289,10 +282,9 @@ impl Process {
     pub fn take_start(self, from: u8) -> Event
         ensures { Rules.event_outcome_of result.reply result.process ≡ Rules.take_start from self }
     {
-        let t = self.config();
         let s = self.station;
         let allowed = (s.state == ASLEEP) | (s.state == ACTIVE);
-        match self.decide(from < t.k, allowed) {
+        match self.decide(from < self.config().k, allowed) {
             Ok(()) => self.done(s.started_by(from)),
             Err(why) => self.refused(why),
         }
@@ -302,9 +294,8 @@ impl Process {
     pub fn send_start(self, to: u8) -> Event
         ensures { Rules.event_outcome_of result.reply result.process ≡ Rules.send_start to self }
     {
-        let t = self.config();
         let s = self.station;
-        match self.decide(to < t.k, s.may_send_start(to)) {
+        match self.decide(to < self.config().k, s.may_send_start(to)) {
             Ok(()) => self.done(s.start_sent(to)),
             Err(why) => self.refused(why),
         }
@@ -331,22 +322,19 @@ impl Process {
     pub fn send_answer(self) -> Event
         ensures { Rules.event_outcome_of result.reply result.process ≡ Rules.send_answer self }
     {
-        let t = self.config();
-        let s = self.station;
-        self.finish(s.may_answer(t, self.own))
+        self.finish(self.station.may_answer(self.config(), self.own))
     }
 
     // Report the sum, which only the root does.
     pub fn report(self) -> Event
         ensures { Rules.event_outcome_of result.reply result.process ≡ Rules.report self }
     {
-        let t = self.config();
-        let s = self.station;
-        self.finish(s.may_report(t, self.own))
+        self.finish(self.station.may_report(self.config(), self.own))
     }
 }
 
-// The events on a process that a controller lends: the event by value, and its process stored back.
+// The events on a process that a controller lends: the event by value, and its process stored back. By value above, lent here: README names both,
+// and C calls these.
 fn in_place<F: FnOnce(Process) -> Event>(p: &mut Process, event: F) -> Reply
     requires { F.pre event p.old }
     ensures { F.post event p.old (record { reply = result; process = p.new }) }

@@ -4,4 +4,4 @@ use Rattle.station.proofs.Process.report.Goals as goal
 
 pub returns : goal.returns
 unfolding report
-returns c = rw (c.may_report.ensures, c.config-t.ensures) at c.finish.ensures
+returns c = rw (c.may_report.ensures, c.config.ensures) at c.finish.ensures

@@ -4,4 +4,4 @@ use Rattle.station.proofs.Process.send_answer.Goals as goal
 
 pub returns : goal.returns
 unfolding send_answer
-returns c = rw (c.may_answer.ensures, c.config-t.ensures) at c.finish.ensures
+returns c = rw (c.may_answer.ensures, c.config.ensures) at c.finish.ensures

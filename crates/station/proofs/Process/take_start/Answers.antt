@@ -6,10 +6,10 @@ use Rattle.station.proofs.Process.take_start.Goals as goal
 
 pub returns-in-Ok : goal.returns-in-Ok
 unfolding take_start
-returns-in-Ok c = rw (c.started_by.ensures, c.config-t.ensures) at (c.done.ensures ∙ sym (c.in-Ok.ensures.accepted _))
+returns-in-Ok c = rw (c.started_by.ensures, c.config.ensures) at (c.done.ensures ∙ sym (c.in-Ok.ensures.accepted _))
 
 pub returns-in-Err : goal.returns-in-Err
 unfolding take_start
 returns-in-Err c =
     let p = c.args.self in
-    rw c.config-t.ensures at (c.refused.ensures ∙ sym (c.in-Err.ensures.refused (done (after p (started_by c.args.from p.station)))))
+    rw c.config.ensures at (c.refused.ensures ∙ sym (c.in-Err.ensures.refused (done (after p (started_by c.args.from p.station)))))

@@ -10,9 +10,9 @@ pub returns-then-self-gt-FINISHED : goal.returns-then-self-gt-FINISHED
 unfolding well_formed
 returns-then-self-gt-FINISHED c = rw (lt-leb _ _ c.if-self-gt-FINISHED.true)
 
-pub returns-then-k-self : goal.returns-then-k-self
+pub returns-then-t-self : goal.returns-then-t-self
 unfolding well_formed
-returns-then-k-self c = simp (le-ltb _ _ c.if-k-self.true, and-false)
+returns-then-t-self c = simp (le-ltb _ _ c.if-t-self.true, and-false)
 
 pub returns-then-not-is_within : goal.returns-then-not-is_within
 unfolding well_formed
@@ -36,7 +36,7 @@ returns c =
     rw (
       c.root.ensures,
       le-leb _ _ c.if-self-gt-FINISHED.false,
-      lt-ltb _ _ c.if-k-self.false,
+      lt-ltb _ _ c.if-t-self.false,
       sym c.is_within.ensures ∙ c.if-not-is_within.false,
       le-leb _ _ c.if-self-gt64.false,
       sym c.is_bounded.ensures ∙ c.if-not-is_bounded.false,
