@@ -19,6 +19,7 @@ pub struct Step {
 }
 
 // What a run gives beside the net: why it was refused, if it was, the steps made, and whether the net reached is quiescent (01: at rest).
+// `at_rest` is no value of the Ok: `stop` and `stop_outside`, which README names, promise this record.
 #[derive(Clone, Copy)]
 pub struct Ran {
     pub answer: Result<(), Refusal>,
@@ -32,7 +33,7 @@ pub fn stop(steps: usize, rest: bool) -> Ran
 {
     Ran {
         answer: Ok(()),
-        steps: steps,
+        steps,
         at_rest: rest,
     }
 }
@@ -43,7 +44,7 @@ pub fn stop_outside(steps: usize) -> Ran
 {
     Ran {
         answer: Err(Refusal::OutOfForm),
-        steps: steps,
+        steps,
         at_rest: false,
     }
 }
