@@ -24,8 +24,7 @@ pub extern "C" fn tally_mailbox_fresh(
     ensures call { called result (net_of line.new boxes.new) ≡ fresh_call (mailbox_opening way map (net_of line.old boxes.old)) }
     ensures spare { spare_in line.new ≡ spare_in line.old }
 {
-    let answer = mailbox::fresh(map, way, line, boxes);
-    crate::map::opened(answer)
+    crate::map::opened(mailbox::fresh(map, way, line, boxes))
 }
 
 // One step.
@@ -41,12 +40,11 @@ pub extern "C" fn tally_mailbox_step(
     ensures spare { spare_in line.new ≡ spare_in line.old }
 {
     let step = Step {
-        kind: kind,
-        sender: sender,
-        receiver: receiver,
+        kind,
+        sender,
+        receiver,
     };
-    let answer = mailbox::step(line, boxes, step);
-    crate::steps::number(answer)
+    crate::steps::number(mailbox::step(line, boxes, step))
 }
 
 // The step that a draw picks.
@@ -55,8 +53,7 @@ pub extern "C" fn tally_mailbox_draw(line: &mut [u64; 705], boxes: &mut [u64; 36
     ensures call { called result (net_of line.new boxes.new) ≡ step_call (draw_on rules (net_of line.old boxes.old) d) }
     ensures spare { spare_in line.new ≡ spare_in line.old }
 {
-    let answer = mailbox::draw(line, boxes, d);
-    crate::steps::number(answer)
+    crate::steps::number(mailbox::draw(line, boxes, d))
 }
 
 // The steps that a list of draws picks.
@@ -69,6 +66,5 @@ pub extern "C" fn tally_mailbox_run(
     ensures call { called result (net_of line.new boxes.new) ≡ run_call (run_on rules (net_of line.old boxes.old) draws.now) }
     ensures spare { spare_in line.new ≡ spare_in line.old }
 {
-    let ran = mailbox::run(line, boxes, draws);
-    crate::steps::run_answer(ran)
+    crate::steps::run_answer(mailbox::run(line, boxes, draws))
 }

@@ -9,7 +9,7 @@ ghost use Rattle.capi.specs.Internal.Values.{reply_given};
 use aggregate::Aggregate;
 use station::{Process, Reply};
 
-// What an answer or a report answers, as one number, and what it gives: nothing where it is refused.
+// C's `struct tally_given`: what an answer or a report answers, as one number, and what it gives: nothing where it is refused.
 #[repr(C)]
 #[derive(Clone, Copy)]
 pub struct Given {
@@ -23,7 +23,7 @@ fn number(reply: Reply) -> u64
 {
     match reply {
         Ok(None) => 0,
-        Ok(Some(gives)) => 256 * (gives.parent as u64),
+        Ok(Some(gives)) => crate::map::with_value(0, gives.parent as u32),
         Err(why) => refusal::number(why) as u64,
     }
 }

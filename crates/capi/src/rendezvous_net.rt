@@ -25,8 +25,7 @@ pub extern "C" fn tally_rendezvous_fresh(
     ensures call { called result (net_in net.new kept.new) ≡ fresh_call (rendezvous_opening (not (eqb carrying 0)) way map (net_in net.old kept.old)) }
     ensures beside { beside_in net.new ≡ beside_in net.old }
 {
-    let answer = rendezvous::fresh(map, way, carrying != 0, net, kept);
-    crate::map::opened(answer)
+    crate::map::opened(rendezvous::fresh(map, way, carrying != 0, net, kept))
 }
 
 // One step.
@@ -42,12 +41,11 @@ pub extern "C" fn tally_rendezvous_step(
     ensures beside { beside_in net.new ≡ beside_in net.old }
 {
     let step = Step {
-        kind: kind,
-        sender: sender,
-        receiver: receiver,
+        kind,
+        sender,
+        receiver,
     };
-    let answer = rendezvous::step(net, kept, step);
-    crate::steps::number(answer)
+    crate::steps::number(rendezvous::step(net, kept, step))
 }
 
 // The step that a draw picks.
@@ -56,8 +54,7 @@ pub extern "C" fn tally_rendezvous_draw(net: &mut [u64; 705], kept: &mut [u64; 5
     ensures call { called result (net_in net.new kept.new) ≡ step_call (draw_on rules (net_in net.old kept.old) d) }
     ensures beside { beside_in net.new ≡ beside_in net.old }
 {
-    let answer = rendezvous::draw(net, kept, d);
-    crate::steps::number(answer)
+    crate::steps::number(rendezvous::draw(net, kept, d))
 }
 
 // The steps that a list of draws picks.
@@ -70,6 +67,5 @@ pub extern "C" fn tally_rendezvous_run(
     ensures call { called result (net_in net.new kept.new) ≡ run_call (run_on rules (net_in net.old kept.old) draws.now) }
     ensures beside { beside_in net.new ≡ beside_in net.old }
 {
-    let ran = rendezvous::run(net, kept, draws);
-    crate::steps::run_answer(ran)
+    crate::steps::run_answer(rendezvous::run(net, kept, draws))
 }

@@ -7,6 +7,7 @@ ghost use Rattle.capi.specs.Map.{sheet_call};
 ghost use Rattle.capi.specs.Internal.Values.{value_of};
 
 use linemap::Map;
+use refusal::Refusal;
 use sheet::SheetFault;
 
 fn sheet_fault(why: SheetFault) -> u64
@@ -16,7 +17,7 @@ fn sheet_fault(why: SheetFault) -> u64
     match why {
         SheetFault::Unfit(why) => crate::map::fault(why),
         SheetFault::Lot => 18,
-        SheetFault::OutOfForm => 11,
+        SheetFault::OutOfForm => refusal::number(Refusal::OutOfForm) as u64,
         SheetFault::Differs => 20,
         SheetFault::Unreported => 21,
         SheetFault::Buffer(need) => crate::map::with_value(15, need as u32),

@@ -6,5 +6,5 @@ use Rattle.capi.proofs.mailbox_net.tally_mailbox_draw.Goals as goal
 
 pub returns : goal.returns
 returns c =
-    let made = c.draw-answer.ensures in
-    record { call = answer-call c.draw-answer.result _ _ c.number.ensures ∙ ap step_call made.outcome; spare = made.spare }
+    let made = c.draw.ensures in
+    record { call = answer-call c.draw.result _ _ c.number.ensures ∙ ap step_call made.outcome; spare = made.spare }

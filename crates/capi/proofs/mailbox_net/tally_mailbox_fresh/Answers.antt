@@ -6,5 +6,5 @@ use Rattle.capi.proofs.mailbox_net.tally_mailbox_fresh.Goals as goal
 
 pub returns : goal.returns
 returns c =
-    let opened = c.fresh-answer.ensures in
-    record { call = opened-call c.fresh-answer.result _ _ c.opened.ensures ∙ ap fresh_call opened.opening; spare = opened.spare }
+    let opened = c.fresh.ensures in
+    record { call = opened-call c.fresh.result _ _ c.opened.ensures ∙ ap fresh_call opened.opening; spare = opened.spare }

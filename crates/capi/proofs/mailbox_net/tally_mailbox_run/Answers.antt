@@ -5,5 +5,5 @@ use Rattle.capi.proofs.mailbox_net.tally_mailbox_run.Goals as goal
 
 pub returns : goal.returns
 returns c =
-    let ran = c.run-ran.ensures in
+    let ran = c.run.ensures in
     record { call = rw c.run_answer.ensures (ap run_call ran.outcome); spare = ran.spare }

@@ -6,5 +6,5 @@ use Rattle.capi.proofs.mailbox_net.tally_mailbox_step.Goals as goal
 
 pub returns : goal.returns
 returns c =
-    let made = c.step-answer.ensures in
-    record { call = answer-call c.step-answer.result _ _ c.number.ensures ∙ ap step_call made.outcome; spare = made.spare }
+    let made = c.step.ensures in
+    record { call = answer-call c.step.result _ _ c.number.ensures ∙ ap step_call made.outcome; spare = made.spare }

@@ -6,5 +6,5 @@ use Rattle.capi.proofs.rendezvous_net.tally_rendezvous_draw.Goals as goal
 
 pub returns : goal.returns
 returns c =
-    let made = c.draw-answer.ensures in
-    record { call = answer-call c.draw-answer.result _ _ c.number.ensures ∙ ap step_call made.outcome; beside = made.beside }
+    let made = c.draw.ensures in
+    record { call = answer-call c.draw.result _ _ c.number.ensures ∙ ap step_call made.outcome; beside = made.beside }

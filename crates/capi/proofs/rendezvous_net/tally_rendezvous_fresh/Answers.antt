@@ -6,5 +6,5 @@ use Rattle.capi.proofs.rendezvous_net.tally_rendezvous_fresh.Goals as goal
 
 pub returns : goal.returns
 returns c =
-    let opened = c.fresh-answer.ensures in
-    record { call = opened-call c.fresh-answer.result _ _ c.opened.ensures ∙ ap fresh_call opened.opening; beside = opened.beside }
+    let opened = c.fresh.ensures in
+    record { call = opened-call c.fresh.result _ _ c.opened.ensures ∙ ap fresh_call opened.opening; beside = opened.beside }

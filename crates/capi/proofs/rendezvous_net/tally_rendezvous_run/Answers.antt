@@ -5,5 +5,5 @@ use Rattle.capi.proofs.rendezvous_net.tally_rendezvous_run.Goals as goal
 
 pub returns : goal.returns
 returns c =
-    let ran = c.run-ran.ensures in
+    let ran = c.run.ensures in
     record { call = rw c.run_answer.ensures (ap run_call ran.outcome); beside = ran.beside }
