@@ -28,23 +28,19 @@ pub(crate) fn is_in_range(t: Config, carrying: u8, step: Step) -> bool
 pub(crate) fn may_step(t: Config, step: Step, s: Station, r: Station) -> bool
     ensures { result ≡ may_step t step.kind step.sender step.receiver s r }
 {
-    let kind = step.kind;
-    let sender = step.sender;
-    let receiver = step.receiver;
-    let state = r.state;
-    match kind {
-        WAKE => match state {
-            station::ASLEEP => s.may_send_start(receiver) & !(receiver == sender),
+    match step.kind {
+        WAKE => match r.state {
+            station::ASLEEP => s.may_send_start(step.receiver) & (step.receiver != step.sender),
             _ => false,
         },
-        PASS => match state {
-            station::ACTIVE => s.may_send_start(receiver) & !(receiver == sender),
+        PASS => match r.state {
+            station::ACTIVE => s.may_send_start(step.receiver) & (step.receiver != step.sender),
             _ => false,
         },
-        ANSWER => match state {
-            station::ACTIVE => s.may_answer(t, sender)
-                & !(sender == receiver)
-                & (s.parent == receiver),
+        ANSWER => match r.state {
+            station::ACTIVE => s.may_answer(t, step.sender)
+                & (step.sender != step.receiver)
+                & (s.parent == step.receiver),
             _ => false,
         },
         REPORT => s.is_ready(),
@@ -71,10 +67,8 @@ pub(crate) fn is_allowed(net: &[u64; 705], t: Config, step: Step) -> bool
 pub(crate) fn send(step: Step, s: Station) -> Station
     ensures { result ≡ sent_by step.kind step.receiver s }
 {
-    let kind = step.kind;
-    match kind {
-        WAKE => s.start_sent(step.receiver),
-        PASS => s.start_sent(step.receiver),
+    match step.kind {
+        WAKE | PASS => s.start_sent(step.receiver),
         TELL => s,
         _ => s.ended(),
     }
@@ -85,14 +79,10 @@ pub(crate) fn receive(t: Config, step: Step, s: Station, r: Station) -> Station
     requires { joinable t r.held s.held ≡ true }
     ensures { result ≡ received_by t step.kind step.sender s r }
 {
-    let kind = step.kind;
-    match kind {
+    match step.kind {
         WAKE => r.woken(step.sender),
         PASS => r.start_taken(),
-        ANSWER => {
-            let given = s.held;
-            r.answer_taken(t, given)
-        }
+        ANSWER => r.answer_taken(t, s.held),
         TELL => telling::hear_total(r),
         _ => r.ended(),
     }

@@ -65,8 +65,7 @@ impl Kind for Meeting {
     }
 
     fn list(net: &[u64; 705], totals: &[u64; 576], l: &mut Listing) -> bool {
-        let found = listing::survey(net, totals, &mut l.kept);
-        let Some(states) = found else {
+        let Some(states) = listing::survey(net, totals, &mut l.kept) else {
             return false;
         };
         let t = stations::config_in(net);

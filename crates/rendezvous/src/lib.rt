@@ -40,7 +40,7 @@ const CARRYING: u8 = 1;
 pub const TOLD: u8 = 3;
 
 // The fresh net of an accepted map, opened for carrying back or not, to join counts the way; any other map and any other way opens none. The other
-// kind of net has a call of its own too: past the test of the map they share no line.
+// kind of net has a call of its own too: both call `open`, `config` and `stations::put_fresh`, and share nothing after these.
 pub fn fresh(
     m: Map,
     way: u8,
@@ -58,6 +58,8 @@ pub fn fresh(
     stations::clear_kept(totals);
     Ok(())
 }
+
+// The calls by name, as README has them: what they do stands once, in `schedule::calls`.
 
 // One step: refused by 11, 12 or 13, or made.
 pub fn step(net: &mut [u64; 705], totals: &mut [u64; 576], step: Step) -> Result<Step, Refusal>

@@ -26,9 +26,7 @@ pub(crate) fn settle(s: Station) -> Station
 pub(crate) fn hear_total(s: Station) -> Station
     ensures { result ≡ Rules.hears_total s }
 {
-    let mut next = s;
-    next.state = TOLD;
-    next
+    Station { state: TOLD, ..s }
 }
 
 // Whether the desk, the step's sender s and its receiver r let a tell be made.
@@ -42,7 +40,7 @@ pub(crate) fn may_tell(t: Config, step: Step, desk: Station, s: Station, r: Stat
     } else {
         s.state == TOLD
     };
-    reported & knows & (r.state == FINISHED) & !(step.receiver == root) & (r.parent == step.sender)
+    reported & knows & (r.state == FINISHED) & (step.receiver != root) & (r.parent == step.sender)
 }
 
 // The receiver of a tell from s keeps what that one knows: the desk what it holds, another what it keeps.
@@ -73,7 +71,7 @@ fn find_teller(net: &[u64; 705], t: Config, i: u8) -> Option<u8>
     let root = aggregate::root(t);
     let s = form::read(net, i);
     let parent = s.parent;
-    if (i == root) | !(s.state == FINISHED) | (t.k <= parent) {
+    if (i == root) | (s.state != FINISHED) | (t.k <= parent) {
         return None;
     }
     if parent == root {
@@ -89,14 +87,12 @@ pub(crate) fn fill_tells(tells: &mut [u64; 260], net: &[u64; 705], t: Config)
     requires empty { tells.old ≡ replicate 260 0 }
     ensures { (kept : List ℕ) → AreTells (net_in net.now kept) t.k tells.new }
 {
-    let k = t.k;
     let desk = form::read(net, aggregate::root(t));
     if desk.state == FINISHED {
-        for i in 0..k {
+        for i in 0..t.k {
             if let Some(p) = find_teller(net, t, i) {
                 let at = 4 * (p as usize) + 4;
-                let set = tells[at];
-                tells[at] = set + bitset::bit_if(true, i);
+                tells[at] += bitset::bit_if(true, i);
             }
         }
     }
