@@ -7,4 +7,3 @@ pub mod FormAfter
 pub mod Following
 pub mod Going
 pub mod Examples
-pub mod Testing

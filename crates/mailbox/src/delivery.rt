@@ -7,7 +7,7 @@ ghost use Rattle.mailbox.specs.Delivery.{takes_from, may_deliver, may_report, aw
 ghost use Rattle.mailbox.specs.Rules.{delivery, report, may_step};
 ghost use Rattle.mailbox.specs.Internal.Receivers.{receiver_made, boxes_made};
 
-use crate::{DELIVERY, KINDS, REPORT};
+use crate::{DELIVERY, KINDS, REPORT, listing};
 use aggregate::Config;
 use mail::{Mailbox, Message};
 use schedule::Step;
@@ -23,11 +23,10 @@ pub(crate) fn is_in_range(t: Config, step: Step) -> bool
 fn takes(receiver: Station, content: Mailbox) -> bool
     ensures { result ≡ takes_from receiver content }
 {
-    let state = receiver.state;
     match content {
         Mailbox::Empty => false,
-        Mailbox::Full(Message::Start) => (state == station::ASLEEP) | (state == station::ACTIVE),
-        Mailbox::Full(Message::Answer) => state == station::ACTIVE,
+        Mailbox::Full(Message::Start) => listing::takes_start(receiver),
+        Mailbox::Full(Message::Answer) => listing::takes_answer(receiver),
     }
 }
 
@@ -35,7 +34,7 @@ fn takes(receiver: Station, content: Mailbox) -> bool
 pub(crate) fn may_deliver(from: u8, to: u8, receiver: Station, content: Mailbox) -> bool
     ensures { result ≡ may_deliver from to receiver content }
 {
-    !(from == to) & takes(receiver, content)
+    (from != to) & takes(receiver, content)
 }
 
 // Whether the root may report.
@@ -68,7 +67,8 @@ fn awaken(receiver: Station, from: u8) -> Station
 }
 
 // The receiver after it took what the mailbox between two stations holds: the words of an answer are read only where there is one.
-// No struct holds `places` and `sums`, here and below: the sums are in words that are lent, and a step, of which the places come, has no bounds.
+// No struct holds `places` and `sums`, here and below: the sums are in words that are lent, and a step's numbers have no bounds. `mail::place::Place`
+// is `mail`'s own, because `box_at` and `put_box` take any numbers.
 fn take(t: Config, boxes: &[u64; 36992], from: u8, to: u8, receiver: Station) -> Station
     requires places { (from < 64) × (to < 64) }
     requires sums { (bounded t receiver.held ≡ true) × (mailbox_bounded t (box_at boxes.now from to) (brought_at t boxes.now from to) ≡ true) }
@@ -80,8 +80,7 @@ fn take(t: Config, boxes: &[u64; 36992], from: u8, to: u8, receiver: Station) ->
         Mailbox::Full(Message::Start) if asleep => awaken(receiver, from),
         Mailbox::Full(Message::Start) => receiver.start_taken(),
         Mailbox::Full(Message::Answer) => {
-            let brought = mail::brought_at(t, boxes, from, to);
-            receiver.answer_taken(t, brought)
+            receiver.answer_taken(t, mail::brought_at(t, boxes, from, to))
         }
     }
 }
@@ -90,7 +89,7 @@ fn take(t: Config, boxes: &[u64; 36992], from: u8, to: u8, receiver: Station) ->
 fn must_answer(t: Config, to: u8, s: Station) -> bool
     ensures { result ≡ must_answer t to s }
 {
-    !(to == aggregate::root(t)) & (s.waits == 0)
+    (to != aggregate::root(t)) & (s.waits == 0)
 }
 
 // A delivery, in place: the mailbox is emptied, and the receiver takes the message. One that was asleep posts its starts; one with nothing

@@ -54,7 +54,7 @@ impl Kind for Mailing {
 
     fn make(line: &mut [u64; 705], boxes: &mut [u64; 36992], step: Step) {
         let t = stations::config_in(line);
-        let next = crate::make(line, boxes, t, step);
+        crate::make(line, boxes, t, step);
     }
 
     fn blank() -> Listing {
@@ -94,8 +94,7 @@ impl Kind for Mailing {
     ) -> bool {
         let t = stations::config_in(line);
         let next = crate::make(line, boxes, t, step);
-        let held = next.held;
-        if !aggregate::is_bounded(t, held) {
+        if !aggregate::is_bounded(t, next.held) {
             return false;
         }
         let reports = listing::root_reports(line, t);

@@ -77,18 +77,18 @@ fn is_row_bounded(t: Config, boxes: &[u64; 36992], s: u8) -> bool
     if answers == 0 {
         return true;
     }
-    let k = t.k;
-    let mut ok = true;
     let mut r: u8 = 0;
-    while r < k {
+    while r < t.k {
         if (answers >> r) % 256 == 0 {
             r += 8;
         } else {
-            ok = ok & ((s == r) | mail::is_box_bounded(t, boxes, s, r));
+            if (s != r) & !mail::is_box_bounded(t, boxes, s, r) {
+                return false;
+            }
             r += 1;
         }
     }
-    ok
+    true
 }
 
 // Whether the posted sums between different stations are bounded.
@@ -96,12 +96,12 @@ fn are_bounded(t: Config, boxes: &[u64; 36992]) -> bool
     requires { t.k ≤ 64 }
     ensures { result ≡ are_bounded t boxes.now }
 {
-    let k = t.k;
-    let mut ok = true;
-    for s in 0..k {
-        ok = ok & is_row_bounded(t, boxes, s);
+    for s in 0..t.k {
+        if !is_row_bounded(t, boxes, s) {
+            return false;
+        }
     }
-    ok
+    true
 }
 
 fn is_well_formed(line: &[u64; 705], boxes: &[u64; 36992]) -> bool
@@ -130,6 +130,8 @@ fn make(line: &mut [u64; 705], boxes: &mut [u64; 36992], t: Config, step: Step) 
     stations::store(line, step.receiver, next);
     next
 }
+
+// The calls by name, as README has them: what they do stands once, in `schedule::calls`.
 
 // One step: refused by 11, 12 or 13, or made.
 pub fn step(line: &mut [u64; 705], boxes: &mut [u64; 36992], step: Step) -> Result<Step, Refusal>

@@ -19,13 +19,13 @@ pub(crate) struct Takers {
     pub(crate) answers: u64,
 }
 
-fn takes_start(s: Station) -> bool
+pub(crate) fn takes_start(s: Station) -> bool
     ensures { result ≡ Rules.takes_start s }
 {
     (s.state == station::ASLEEP) | (s.state == station::ACTIVE)
 }
 
-fn takes_answer(s: Station) -> bool
+pub(crate) fn takes_answer(s: Station) -> bool
     ensures { result ≡ Rules.takes_answer s }
 {
     s.state == station::ACTIVE
