@@ -107,7 +107,8 @@ pub fn put_config(words: &mut [u64; 705], t: Config)
     words[0] = config_word(words[0], t);
 }
 
-// A loop: by `copy_from_slice`, here and where an aggregate is stored, a run of stations that meet takes longer than its bar.
+// Nine words of a net's or of what is kept: no type holds both, so this and `store_aggregate` ask for the room. A loop: by `copy_from_slice`, here
+// and there, a run of stations that meet takes longer than its bar.
 fn load_aggregate(words: &[u64], at: usize) -> Aggregate
     requires { at + 9 ≤ length words.now }
     ensures { result ≡ Words.aggregate_from words.now at }
@@ -119,29 +120,23 @@ fn load_aggregate(words: &[u64], at: usize) -> Aggregate
     aggregate::of_words(sums, words[at + 8])
 }
 
-#[tactic(auto, unfolding(crate::specs::Words::station_from))]
-fn load_from(words: &[u64; 705], at: usize) -> Station
-    requires { at + 11 ≤ 705 }
-    ensures { result ≡ Words.station_from words.now at }
-{
-    let held = load_aggregate(words, at);
-    let unstarted = words[at + 9];
-    let [parent, waits, state, ..] = words[at + 10].to_le_bytes();
-    Station {
-        held,
-        unstarted,
-        parent,
-        waits,
-        state,
-    }
-}
-
 // Station i; other numbers than 0 to 63 have no place.
+#[tactic(auto, unfolding(crate::specs::Words::station_from))]
 pub fn load(words: &[u64; 705], i: u8) -> Station
     ensures { result ≡ Words.station_read words.now i }
 {
     if i < 64 {
-        load_from(words, 1 + 11 * (i as usize))
+        let at = 1 + 11 * (i as usize);
+        let held = load_aggregate(words, at);
+        let unstarted = words[at + 9];
+        let [parent, waits, state, ..] = words[at + 10].to_le_bytes();
+        Station {
+            held,
+            unstarted,
+            parent,
+            waits,
+            state,
+        }
     } else {
         blank()
     }
@@ -166,19 +161,8 @@ fn fields_word(w: u64, s: Station) -> u64
     w / 0x100_0000 * 0x100_0000 + u64::from(u32::from_le_bytes([s.parent, s.waits, s.state, 0]))
 }
 
-#[tactic(auto, unfolding(crate::specs::Words::with_station))]
-fn store_from(words: &mut [u64; 705], at: usize, s: Station)
-    requires { at + 11 ≤ 705 }
-    ensures words { words.new ≡ Words.with_station words.old at s }
-    ensures fits { Fits s }
-{
-    let w = fields_word(words[at + 10], s);
-    store_aggregate(words, at, s.held);
-    words[at + 9] = s.unstarted;
-    words[at + 10] = w;
-}
-
 // Station i becomes s; other numbers than 0 to 63 have no place.
+#[tactic(auto, unfolding(crate::specs::Words::with_station))]
 pub fn store(words: &mut [u64; 705], i: u8, s: Station)
     ensures words { words.new ≡ Words.station_written words.old i s }
     ensures stations { Words.stations_in words.new ≡ set (Words.stations_in words.old) i s }
@@ -186,7 +170,11 @@ pub fn store(words: &mut [u64; 705], i: u8, s: Station)
     ensures spare { Words.spare_in words.new ≡ Words.spare_in words.old }
 {
     if i < 64 {
-        store_from(words, 1 + 11 * (i as usize), s);
+        let at = 1 + 11 * (i as usize);
+        let w = fields_word(words[at + 10], s);
+        store_aggregate(words, at, s.held);
+        words[at + 9] = s.unstarted;
+        words[at + 10] = w;
     }
 }
 
