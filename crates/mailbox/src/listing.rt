@@ -42,10 +42,7 @@ pub(crate) fn find_takers(line: &[u64; 705], k: u8) -> Takers
         starts += bit_if(takes_start(s), i);
         answers += bit_if(takes_answer(s), i);
     }
-    Takers {
-        starts: starts,
-        answers: answers,
-    }
+    Takers { starts, answers }
 }
 
 // The same, where station j has become s.
@@ -79,8 +76,8 @@ fn find_four(root: u8, takers: Takers, reports: bool, boxes: &[u64; 36992], send
     let first = find_deliverable(sender, starts, answers, takers);
     let second = bit_if((sender == root) & reports, sender);
     Four {
-        first: first,
-        second: second,
+        first,
+        second,
         third: 0,
         fourth: 0,
     }

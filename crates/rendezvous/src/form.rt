@@ -102,7 +102,7 @@ pub fn is_well_formed(net: &[u64; 705], totals: &[u64; 576]) -> bool
     true
 }
 
-// Whether a step has left the form, of its receiver.
+// Whether a step has kept the form, of its receiver.
 pub(crate) fn keeps_form(net: &[u64; 705], t: Config, step: Step) -> bool
     requires { step.receiver < 64 }
     ensures { result ≡ keeps_form t step.kind (station_at (stations_in net.now) step.receiver) }

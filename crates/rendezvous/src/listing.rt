@@ -115,10 +115,7 @@ pub(crate) fn survey(
         let sends = find_sends(t, j, s);
         kept[j as usize] = sends;
     }
-    Some(States {
-        asleep: asleep,
-        active: active,
-    })
+    Some(States { asleep, active })
 }
 
 // The rows of a sender: of what it may send, what stations in these states can take. Rows and sizes are two values, no struct: the search takes

@@ -79,9 +79,9 @@ fn find_of_kind(rows: &[u64], kind: u8, k: u8, index: u32) -> Result<Step, u32>
     }
     if sender < k {
         return Ok(Step {
-            kind: kind,
-            sender: sender,
-            receiver: receiver,
+            kind,
+            sender,
+            receiver,
         });
     }
     Err(left)
