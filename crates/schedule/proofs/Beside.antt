@@ -1,11 +1,11 @@
 -- A search where a fifth kind has rows of its own, beside those of the other four: its entries go after theirs. Assumes nothing.
-use Rattle.std.proofs.Common.{◌≡◌, ℕ, ◌+◌, ◌-◌, ◌*◌, ◌%◌, ◌^◌, ◌<◌, ◌≤◌, ltb, List, ◌++◌, length, sym, ◌∙◌, le_trans, mul-le-mul_right, mod-eq_of_lt, arith, length-append, ltb-false, ltb-true, lt-ltb, eq-eqb, ne_eqb, Result, Ok, Err}
+use Rattle.std.proofs.Common.{◌≡◌, ℕ, ◌+◌, ◌*◌, ◌%◌, ◌^◌, ◌<◌, ◌≤◌, ltb, List, ◌++◌, length, sym, ◌∙◌, le_trans, mul-le-mul_right, mod-eq_of_lt, arith, length-append, ltb-false, ltb-true, lt-ltb, eq-eqb, ne_eqb}
 use Rattle.finite.proofs.Cases.{by_bool, by_eq}
 use Rattle.schedule.specs.declared.Step.{Step}
 use Rattle.schedule.specs.declared.rows.Sizes.{Sizes}
 use Rattle.schedule.specs.Listing.{select, step}
 use Rattle.schedule.specs.Draws.{picked}
-use Rattle.schedule.specs.Rows.{steps_of_kind, entry, in_rows, entry_of_kind, size_of, total_of, step_found, picked_by_size, entry_beside, picked_beside}
+use Rattle.schedule.specs.Rows.{steps_of_kind, entry, in_rows, size_of, total_of, step_found, picked_by_size, entry_beside, picked_beside}
 use Rattle.schedule.specs.Internal.Rows.{listed_in, sizes_of}
 use Rattle.schedule.proofs.Parts.{length-select, length-steps_of_kind, entry_at, entry_first, entry_beyond, entry-second}
 use Rattle.schedule.proofs.RowLists.{listed_few}
@@ -13,21 +13,10 @@ use Rattle.schedule.proofs.Sized.{total-listed, entry_by_size_lem}
 use Rattle.schedule.proofs.Picks.{picked_none, picked-entry}
 
 -- no rows list so many steps of a kind
-pub size_few : (rows : List ℕ) (k kind : ℕ) → k ≤ 255 → size_of rows k kind ≤ 255 * 64
+size_few : (rows : List ℕ) (k kind : ℕ) → k ≤ 255 → size_of rows k kind ≤ 255 * 64
 unfolding size_of
 size_few rows k kind low =
     le_trans (length-select (in_rows rows) (steps_of_kind 64 k kind 0)) (rw (length-steps_of_kind 64 k kind) (mul-le-mul_right 64 low))
-
--- so a search that goes on to 65535 goes past them
-pub searched_past : (rows : List ℕ) (k kind : ℕ) → k ≤ 255 → entry_of_kind rows k kind 65535 ≡ Err (65535 - size_of rows k kind)
-unfolding size_of
-searched_past rows k kind low = entry_beyond (select (in_rows rows) (steps_of_kind 64 k kind 0)) 65535 (omega (arith, size_few rows k kind low))
-
-pub past-none : {P : Type 0} {s : Step} {n : ℕ} → Ok s ≡ Err n → P
-past-none e = absurd (let z : ◌≡◌ {A = ℕ} 0 1 = cc in omega arith)
-
-pub past-left : {m n : ℕ} → ◌≡◌ {A = Result Step ℕ} (Err m) (Err n) → m ≡ n
-past-left e = cc
 
 -- a number below the total picks the entry that it is, of those before the fifth kind
 pub picked_low : (rows : List ℕ) (z : Sizes) (more : List ℕ) (k n : ℕ) → n < total_of z

@@ -133,15 +133,20 @@ module _ (row : ℕ → ℕ → ℕ) where
         fourth = (refl, omega arith);
       }
 
-  -- one sum more
+  -- one row more, and in 32 bits
+  pub sum_more : {kind n x a : ℕ} → a < 2 ^ 64 → a ≡ row kind n → (x ≡ sum kind n) × (x ≤ 64 * n)
+      → (x + size a ≡ sum kind (n + 1)) × (x + size a ≤ 64 * (n + 1))
+  unfolding fold_to
+  sum_more {kind} {n} {x} {a} fits e h =
+      let more : sum kind (n + 1) ≡ sum kind n + size (row kind n) = ap (sum kind) (add-one n) in
+      (omega (arith, h.0, more, ap size e), omega (arith, size-le 64 a (omega arith) fits, h.1))
+
   sum-next : {kind n x a : ℕ} → n < 64 → a < 2 ^ 64 → a ≡ row kind n → (x ≡ sum kind n) × (x ≤ 64 * n)
       → ((x + size a) % 2 ^ 32 ≡ sum kind (n + 1)) × ((x + size a) % 2 ^ 32 ≤ 64 * (n + 1))
-  unfolding fold_to
   sum-next {kind} {n} {x} {a} low fits e h =
-      let most : size a ≤ 64 = size-le 64 a (omega arith) fits in
-      let whole : (x + size a) % 2 ^ 32 ≡ x + size a = mod-eq_of_lt (omega (arith, most, h.1, low)) in
-      let more : sum kind (n + 1) ≡ sum kind n + size (row kind n) = ap (sum kind) (add-one n) in
-      (whole ∙ omega (arith, h.0, more, ap size e), omega (arith, whole, most, h.1))
+      let more = sum_more {kind = kind} {n = n} fits e h in
+      let whole : (x + size a) % 2 ^ 32 ≡ x + size a = mod-eq_of_lt (omega (arith, more.1, low)) in
+      rw whole more
 
   pub counted-four : {n : ℕ} {z : Sizes} {a b c d : ℕ} → Counted n z → n < 64 → (a < 2 ^ 64) × (b < 2 ^ 64) × (c < 2 ^ 64) × (d < 2 ^ 64)
       → a ≡ row 1 n → b ≡ row 2 n → c ≡ row 3 n → d ≡ row 4 n → Counted (n + 1) (added z a b c d)

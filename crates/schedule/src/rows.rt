@@ -6,7 +6,6 @@ ghost use Rattle.schedule.specs.Rows;
 
 use crate::Step;
 use bitset::contains;
-use std::num::{wrapping_add_u32, wrapping_sub_u32};
 
 // How many steps rows list, by kind: a sender has four rows, of kinds 1 to 4. A net that has a fifth kind has its rows beside them.
 #[derive(Clone, Copy)]
@@ -107,22 +106,23 @@ pub fn add(sizes: Sizes, a: u64, b: u64, c: u64, d: u64) -> Sizes
         return sizes;
     }
     Sizes {
-        first: wrapping_add_u32(sizes.first, row_size(a)),
-        second: wrapping_add_u32(sizes.second, row_size(b)),
-        third: wrapping_add_u32(sizes.third, row_size(c)),
-        fourth: wrapping_add_u32(sizes.fourth, row_size(d)),
+        first: sizes.first.wrapping_add(row_size(a)),
+        second: sizes.second.wrapping_add(row_size(b)),
+        third: sizes.third.wrapping_add(row_size(c)),
+        fourth: sizes.fourth.wrapping_add(row_size(d)),
     }
 }
 
 // The sizes without the rows of one sender.
+#[tactic(auto, unfolding(crate::specs::Rows::removed))]
 pub fn remove(sizes: Sizes, a: u64, b: u64, c: u64, d: u64) -> Sizes
     ensures { result ≡ Rows.removed sizes a b c d }
 {
     Sizes {
-        first: wrapping_sub_u32(sizes.first, row_size(a)),
-        second: wrapping_sub_u32(sizes.second, row_size(b)),
-        third: wrapping_sub_u32(sizes.third, row_size(c)),
-        fourth: wrapping_sub_u32(sizes.fourth, row_size(d)),
+        first: sizes.first.wrapping_sub(row_size(a)),
+        second: sizes.second.wrapping_sub(row_size(b)),
+        third: sizes.third.wrapping_sub(row_size(c)),
+        fourth: sizes.fourth.wrapping_sub(row_size(d)),
     }
 }
 
@@ -156,12 +156,15 @@ pub fn replace(rows: &mut [u64; 256], sizes: Sizes, sender: u8, four: Four) -> S
 }
 
 // How many steps of all kinds there are.
+#[tactic(auto, unfolding(crate::specs::Rows::total_of))]
 pub fn total(sizes: Sizes) -> u32
     ensures { result ≡ Rows.total_of sizes }
 {
-    let two = wrapping_add_u32(sizes.first, sizes.second);
-    let three = wrapping_add_u32(two, sizes.third);
-    wrapping_add_u32(three, sizes.fourth)
+    sizes
+        .first
+        .wrapping_add(sizes.second)
+        .wrapping_add(sizes.third)
+        .wrapping_add(sizes.fourth)
 }
 
 // Entry `index`, counted from 0, of all steps: a kind that ends before it is passed by its size.
@@ -194,19 +197,16 @@ pub fn pick(rows: &[u64], sizes: Sizes, k: u8, d: u16) -> Option<Step>
     find(rows, sizes, k, d as u32 % c).ok()
 }
 
-// More than all steps of a kind.
-const MOST: u32 = 65535;
-
-// How many steps of a kind the rows list: so many a search passes that looks for an entry after all of them.
+// How many steps of a kind the rows list.
 fn count_of_kind(rows: &[u64], kind: u8, k: u8) -> u32
     requires { 1 ≤ kind }
     ensures { result ≡ Rows.size_of rows.now k kind }
 {
-    let found = find_of_kind(rows, kind, k, MOST);
-    match found {
-        Ok(_) => 0,
-        Err(left) => MOST - left,
+    let mut count = 0;
+    for sender in 0..k {
+        count += row_size(row_at(rows, 4 * (sender as usize) + (kind as usize) - 1));
     }
+    count
 }
 
 // The step that is entry `index`, counted from 0, of all steps, those of the fifth kind after the others. Of the others it is what a draw of `index`
@@ -228,7 +228,7 @@ fn find_beside(rows: &[u64], sizes: Sizes, more: &[u64], k: u8, index: u32) -> O
 pub fn pick_beside(rows: &[u64], sizes: Sizes, more: &[u64], k: u8, d: u16) -> Option<Step>
     ensures { result ≡ Rows.picked_beside rows.now sizes more.now k d }
 {
-    let c = wrapping_add_u32(total(sizes), count_of_kind(more, 5, k));
+    let c = total(sizes).wrapping_add(count_of_kind(more, 5, k));
     if c == 0 {
         return None;
     }

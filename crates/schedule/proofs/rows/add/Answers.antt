@@ -29,14 +29,4 @@ returns-then-a-b c =
 
 pub returns : goal.returns
 unfolding added
-returns c =
-    rw (
-      c.wrapping_add_u32-4.ensures.value,
-      c.row_size-4.ensures,
-      c.wrapping_add_u32-3.ensures.value,
-      c.row_size-3.ensures,
-      c.wrapping_add_u32-2.ensures.value,
-      c.row_size-2.ensures,
-      c.wrapping_add_u32.ensures.value,
-      c.row_size.ensures,
-    )
+returns c = rw (c.row_size-4.ensures, c.row_size-3.ensures, c.row_size-2.ensures, c.row_size.ensures)

@@ -1,28 +1,26 @@
--- `schedule::rows::count_of_kind` meets its contract: no kind has so many steps, so the search goes past all of them. Assumes nothing.
-use Rattle.std.proofs.Common.{◌≡◌, ◌-◌, ◌≤◌, sym, ◌∙◌, arith}
-use Rattle.schedule.specs.Rows.{size_of}
-use Rattle.schedule.proofs.Beside.{size_few, searched_past, past-none, past-left}
+-- `schedule::rows::count_of_kind` meets its contract: row by row, as many steps as the row has members. Assumes nothing.
+use Rattle.std.proofs.Common.{◌≡◌, ◌+◌, ◌-◌, ◌*◌, refl, sym, ap, ◌∙◌, arith}
+use Rattle.finite.specs.Sum.{fold_to}
+use Rattle.schedule.specs.Rows.{row_at}
+use Rattle.schedule.proofs.Counting.{sum, sum_more, rows-sum}
 use Rattle.schedule.proofs.rows.count_of_kind.Goals as goal
-use Rattle.schedule.proofs.rows.count_of_kind.Goals.{In-Err}
 
--- what is left of the search
-left : (c : In-Err) → let a = c.args in
-    (c.in-Err.left ≡ 65535 - size_of a.rows.now a.k a.kind) × (size_of a.rows.now a.k a.kind ≤ 65535)
-left c =
+pub loop-sender-init : goal.loop-sender-init
+unfolding fold_to
+loop-sender-init c = (refl, omega arith)
+
+pub loop-sender-preserved : goal.loop-sender-preserved
+loop-sender-preserved c =
+    rw c.row_size-count.ensures (sum_more (row_at c.args.rows.now) {kind = c.args.kind} {n = c.loop-sender.sender} c.row_at.type_inv c.row_at.ensures c.loop-sender.invariant)
+
+pub overflow_add-count : goal.overflow_add-count
+overflow_add-count c = omega (arith, (loop-sender-preserved c).1)
+
+pub returns : goal.returns
+returns c =
     let a = c.args in
-    let low : a.k ≤ 255 = omega (arith, c.ranges.k.fits) in (
-      past-left (sym c.in-Err.is ∙ c.find_of_kind-found.ensures ∙ searched_past a.rows.now a.k a.kind low),
-      omega (arith, size_few a.rows.now a.k a.kind low),
-    )
-
-pub overflow_sub-result : goal.overflow_sub-result
-overflow_sub-result c = omega (arith, (left (goal.at.overflow_sub-result c).In-Err).0)
-
-pub returns-in-Ok : goal.returns-in-Ok
-returns-in-Ok c =
-    let a = c.args in
-    let low : a.k ≤ 255 = omega (arith, c.ranges.k.fits) in
-    past-none (sym c.in-Ok.is ∙ c.find_of_kind-found.ensures ∙ searched_past a.rows.now a.k a.kind low)
-
-pub returns-in-Err : goal.returns-in-Err
-returns-in-Err c = omega (arith, left (goal.at.returns-in-Err c).In-Err)
+    let row = row_at a.rows.now in
+    let end : c.loop-sender.sender ≡ a.k = omega arith in
+    c.loop-sender.invariant.0
+    ∙ ap (sum row a.kind) end
+    ∙ sym (rows-sum row a.rows.now a.kind a.k (λ s l. refl) (λ s l. (c.type_inv.rows (4 * s + a.kind - 1)).fits))
