@@ -1,15 +1,18 @@
--- What is kept, in lent words: each place after one is written. Assumes nothing.
-use mathlib.Core.Path.{◌≡◌, refl, sym, ap₂, ◌∙◌, subst}
+-- What is kept, in lent words: each place after one is written, and nothing in zeros. Assumes nothing.
+use mathlib.Core.Path.{◌≡◌, refl, sym, ap₂, ◌∙◌}
 use mathlib.Core.List.{List}
 use Prim.Native.Nat.{ℕ, ◌+◌, ◌*◌, ◌<◌}
 use native.Mathlib.Omega.{arith}
-use lib.ListN.{length, get_or, set, replicate, length-set, length-replicate, get_or-replicate}
+use lib.ListN.{length, get_or, set, replicate, length-set}
 use lib.Seq.{get_or-set_same, get_or-set_other, ext_get_or}
 use borrow.Author.Tests.{lt-ltb}
+use Rattle.finite.specs.Below as Below
+use Rattle.finite.specs.Numbers as Numbers
 use Rattle.finite.proofs.Cases.{by_eq}
 use Rattle.finite.proofs.Below.{length-tabulate, get_d_tabulate}
 use Rattle.aggregate.specs.declared.Aggregate.{Aggregate}
 use Rattle.aggregate.specs.Aggregate.{of_words, nothing, absent}
+use Rattle.stations.specs.Words as Words
 use Rattle.stations.specs.Words.{aggregate_from, with_aggregate}
 use Rattle.stations.specs.Kept.{kept_in, kept_read}
 use Rattle.stations.specs.Internal.Fitting.{FitsHeld}
@@ -52,28 +55,7 @@ kept_stored words long i low v fits =
     ∙ sym (kept_at words x inside)
     ∙ sym (get_or-set_other (kept_in words) i x v absent n)))
 
--- nothing is kept below n
-pub record Cleared (n : ℕ) (l : List Aggregate) : Type 0 where
-  pub long : length l ≡ 64
-  pub none : (i : ℕ) → i < n → get_or l i absent ≡ nothing
-
-pub cleared_none : (words : List ℕ) → Cleared 0 (kept_in words)
-cleared_none words = record { long = length_kept words; none = λ i l. absurd (let z : ⊥ = omega arith in z) }
-
-pub cleared_next : {n : ℕ} {l m : List Aggregate} {v : Aggregate} → Cleared n l → n < 64 → v ≡ nothing → m ≡ set l n v → Cleared (n + 1) m
-cleared_next {n} {l} {m} {v} C low e q =
-    subst (Cleared (n + 1)) (sym q)
-    (record {
-      long = length-set l n v ∙ C.long;
-      none = λ i h. by_eq i n
-          (λ (w : i ≡ n). rw w (get_or-set_same l n v absent (omega (arith, C.long)) ∙ e))
-          (λ w. get_or-set_other l n i v absent w ∙ C.none i (omega arith));
-    })
-
-pub cleared_all : {l : List Aggregate} → Cleared 64 l → l ≡ replicate 64 nothing
-cleared_all {l} C =
-    ext_get_or absent l (replicate 64 nothing) (C.long ∙ sym (length-replicate 64 nothing))
-    (λ i h. let low : i < 64 = omega (arith, C.long) in C.none i low ∙ sym (get_or-replicate 64 i nothing absent low))
-
--- place by place, until all are cleared
-pub ruleset cleared = (cleared_none, cleared_next, cleared_all)
+-- zeros keep nothing
+pub kept-zeros : kept_in (replicate 576 0) ≡ replicate 64 nothing
+unfolding kept_in Below.tabulate Below.each nothing Words.sums_in Numbers.bytes
+kept-zeros = refl

@@ -92,8 +92,8 @@ pub fn config_in(words: &[u64; 705]) -> Config
 fn config_word(w: u64, t: Config) -> u64
     ensures { result ≡ Words.config_word w t }
 {
-    w / 0x1_0000_0000 * 0x1_0000_0000
-        + u64::from(u32::from_le_bytes([t.k, t.classes, t.desk, t.way]))
+    let [_, _, _, _, a, b, c, d] = w.to_le_bytes();
+    u64::from_le_bytes([t.k, t.classes, t.desk, t.way, a, b, c, d])
 }
 
 // The words of a net opened with t.
@@ -158,7 +158,8 @@ fn store_aggregate(words: &mut [u64], at: usize, v: Aggregate)
 fn fields_word(w: u64, s: Station) -> u64
     ensures { result ≡ Words.fields_word w s }
 {
-    w / 0x100_0000 * 0x100_0000 + u64::from(u32::from_le_bytes([s.parent, s.waits, s.state, 0]))
+    let [_, _, _, a, b, c, d, e] = w.to_le_bytes();
+    u64::from_le_bytes([s.parent, s.waits, s.state, a, b, c, d, e])
 }
 
 // Station i becomes s; other numbers than 0 to 63 have no place.
@@ -200,14 +201,10 @@ pub fn store_kept(words: &mut [u64; 576], i: u8, v: Aggregate)
 }
 
 // Nobody keeps anything.
-#[tactic(auto, using(crate::proofs::Kept::cleared))]
 pub fn clear_kept(words: &mut [u64; 576])
     ensures { Kept.kept_in words.new ≡ replicate 64 nothing }
 {
-    let none = aggregate::empty();
-    for i in 0..64 {
-        store_kept(words, i, none);
-    }
+    words.fill(0);
 }
 
 // The net opened with t, all its stations before the first step.
