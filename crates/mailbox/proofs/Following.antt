@@ -66,9 +66,9 @@ module _ (t : Config) (takers : Takers) (stations : List Station) (boxes : List 
       rw (starts, answers, root))
       (λ q. rw (starts, answers, ne_eqb x (root_of t) q))
 
-  pub others_hold : {k : ℕ} {rows : List ℕ} {z : Sizes} → k ≤ 64 → s.sender < k → s.receiver < k
-      → HoldReceivers AnySender k (root_of t) takers (root_reports t stations) boxes rows z
-      → HoldReceivers (Others s) k (root_of t) takers (root_reports t stations') (boxes_made t boxes s receiver) rows z
+  pub others_hold : {rows : List ℕ} {z : Sizes} → t.k ≤ 64 → s.sender < t.k → s.receiver < t.k
+      → HoldReceivers AnySender t takers (root_reports t stations) boxes rows z
+      → HoldReceivers (Others s) t takers (root_reports t stations') (boxes_made t boxes s receiver) rows z
   others_hold few hs hr H =
       record {
         sized = H.sized;

@@ -49,11 +49,11 @@ retaken-is k few stations full j low s =
 
 -- rows of what the code has read of a net
 pub held-told : (those : ℕ → Type 0) (t : Config) {u : Config} (takers : Takers) (reports : Bool) (stations : List Station) (boxes : List ℕ) {rows : List ℕ} {z : Sizes}
-    → t ≡ u → reports ≡ root_reports t stations → HoldReceivers those t.k (root_of t) takers reports boxes rows z
-    → HoldReceivers those u.k (root_of u) takers (root_reports u stations) boxes rows z
+    → t ≡ u → reports ≡ root_reports t stations → HoldReceivers those t takers reports boxes rows z
+    → HoldReceivers those u takers (root_reports u stations) boxes rows z
 held-told those t takers reports stations boxes {rows} {z} e g H =
-    subst (λ (v : Config). HoldReceivers those v.k (root_of v) takers (root_reports v stations) boxes rows z) e
-    (subst (λ (b : Bool). HoldReceivers those t.k (root_of t) takers b boxes rows z) g H)
+    subst (λ (v : Config). HoldReceivers those v takers (root_reports v stations) boxes rows z) e
+    (subst (λ (b : Bool). HoldReceivers those t takers b boxes rows z) g H)
 
 -- an allowed step, as the code makes it
 pub made-is : (net : Net) (s : Step) {next : Station} {there : Net} → Made net s next there → there ≡ net_after net s
@@ -76,6 +76,9 @@ module _ {here : Net} {l : Listing} (L : Lists here l) (formed : well_formed her
     pub picks : (d : ℕ) {p : Option Step} → p ≡ picked_by_size l.rows l.sizes t.k d → p ≡ picked (listed rules here) d
     picks d e = of_list rules here fills (omega arith) d (e ∙ ap (λ (u : Config). picked_by_size l.rows l.sizes u.k d) told)
 
+    pub few-told : t.k ≤ 64
+    few-told = rw told few
+
     pub root-low : root_of t < 64
     root-low = rw told (root-placed here formed)
 
@@ -84,8 +87,8 @@ module _ {here : Net} {l : Listing} (L : Lists here l) (formed : well_formed her
       bounds : Bounds rules here s
       bounds = range_bounds rules here s (allowed_parts rules here s may).0
 
-      pub both_low : (t.k ≤ 64) × ((s.sender < t.k) × (s.receiver < t.k))
-      both_low = rw told (few, (bounds.sender-low, bounds.receiver-low))
+      pub both_low : (s.sender < t.k) × (s.receiver < t.k)
+      both_low = rw told (bounds.sender-low, bounds.receiver-low)
 
       module _ {next : Station} {there : Net} (M : Made here s next there) where
         abbrev placed : List Station
@@ -112,17 +115,17 @@ module _ {here : Net} {l : Listing} (L : Lists here l) (formed : well_formed her
 
         module _ {reports : Bool} (g : reports ≡ root_reports t there.stations) where
           -- the rows as `follow` asks for them
-          pub others-held : HoldReceivers (Others s) t.k (root_of t) l.takers reports there.boxes l.rows l.sizes
+          pub others-held : HoldReceivers (Others s) t l.takers reports there.boxes l.rows l.sizes
           others-held =
               let held = others_hold here.config l.takers here.stations here.boxes s (station here s.receiver) next few
               bounds.sender-low bounds.receiver-low L.holds in
               let read : root_reports here.config placed ≡ reports = ap₂ root_reports (sym told) (sym same-stations) ∙ sym g in
-              subst (λ (m : List ℕ). HoldReceivers (Others s) t.k (root_of t) l.takers reports m l.rows l.sizes) (sym same-boxes)
-              (subst (λ (u : Config). HoldReceivers (Others s) u.k (root_of u) l.takers reports boxes l.rows l.sizes) (sym told)
-              (subst (λ (b : Bool). HoldReceivers (Others s) here.config.k (root_of here.config) l.takers b boxes l.rows l.sizes) read held))
+              subst (λ (m : List ℕ). HoldReceivers (Others s) t l.takers reports m l.rows l.sizes) (sym same-boxes)
+              (subst (λ (u : Config). HoldReceivers (Others s) u l.takers reports boxes l.rows l.sizes) (sym told)
+              (subst (λ (b : Bool). HoldReceivers (Others s) here.config l.takers b boxes l.rows l.sizes) read held))
 
           pub lists_further : {takers' : Takers} {rows' : List ℕ} {z' : Sizes} → takers' ≡ retaken s.receiver next l.takers
-              → HoldReceivers AnySender t.k (root_of t) takers' reports there.boxes rows' z'
+              → HoldReceivers AnySender t takers' reports there.boxes rows' z'
               → Lists there (record { takers = takers'; rows = rows'; sizes = z' })
           lists_further {takers' = takers'} w H =
               record {

@@ -123,7 +123,7 @@ module _ (net : Net) (few : net.config.k ≤ 64) where
       (λ m. rw (ne_eqb kind delivery n, ne_eqb kind report m) (no_row rules net kind s (omega (arith, n, m)))))
 
   -- the rows that the code fills are those of the steps allowed
-  pub filled : {rows : List ℕ} {z : Sizes} → HoldReceivers AnySender k (root_of net.config) takers reports net.boxes rows z → Filled rules net rows z
+  pub filled : {rows : List ℕ} {z : Sizes} → HoldReceivers AnySender net.config takers reports net.boxes rows z → Filled rules net rows z
   filled H =
       record {
         few = few;

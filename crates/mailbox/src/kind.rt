@@ -4,7 +4,7 @@ ghost use Rattle.mailbox.specs.Net.{Net, net_of};
 ghost use Rattle.mailbox.specs.Rules.{rules};
 ghost use Rattle.mailbox.specs.Internal.Listings.{Lists};
 
-use crate::listing::Takers;
+use crate::listing::{Takers, Waiting};
 use crate::{delivery, listing};
 use schedule::Step;
 use schedule::calls::Kind;
@@ -74,9 +74,14 @@ impl Kind for Mailing {
         }
         let t = stations::config_in(line);
         let takers = listing::find_takers(line, t.k);
-        let reports = listing::root_reports(line, t);
+        let waiting = Waiting {
+            t,
+            takers,
+            reports: listing::root_reports(line, t),
+            boxes,
+        };
         l.takers = takers;
-        l.sizes = listing::fill(&mut l.rows, t, takers, reports, boxes);
+        l.sizes = waiting.fill(&mut l.rows);
         true
     }
 
@@ -97,11 +102,16 @@ impl Kind for Mailing {
         if !aggregate::is_bounded(t, next.held) {
             return false;
         }
-        let reports = listing::root_reports(line, t);
         let old = l.takers;
         let takers = listing::retake(old, step.receiver, next);
+        let waiting = Waiting {
+            t,
+            takers,
+            reports: listing::root_reports(line, t),
+            boxes,
+        };
         l.takers = takers;
-        l.sizes = listing::follow(&mut l.rows, l.sizes, t, old, takers, reports, boxes, step);
+        l.sizes = waiting.follow(&mut l.rows, l.sizes, old, step);
         true
     }
 }

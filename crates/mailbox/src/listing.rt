@@ -63,71 +63,67 @@ fn find_deliverable(sender: u8, starts: u64, answers: u64, takers: Takers) -> u6
     bitset::without(all, sender)
 }
 
-// The rows of a sender: who can take what its mailboxes hold, and the report. Two stay empty. Rows and sizes are two values, no struct: the
-// search takes them as two, and its promise, which README names, would name both fields all the same.
-#[tactic(auto, unfolding(crate::specs::Internal::Receivers::receivers_of))]
-fn find_four(root: u8, takers: Takers, reports: bool, boxes: &[u64; 36992], sender: u8) -> Four
-    requires { sender < 64 }
-    ensures { AreFour (λ kind. Rules.receivers_of root takers reports boxes.now kind sender) result }
-{
-    let s = sender as usize;
-    let starts = boxes[s];
-    let answers = boxes[64 + s];
-    let first = find_deliverable(sender, starts, answers, takers);
-    let second = bit_if((sender == root) & reports, sender);
-    Four {
-        first,
-        second,
-        third: 0,
-        fourth: 0,
-    }
+// What waits in the mailboxes, and who takes it; whether the root may report.
+#[derive(Drop)]
+pub(crate) struct Waiting<'a> {
+    pub(crate) t: Config,
+    pub(crate) takers: Takers,
+    pub(crate) reports: bool,
+    pub(crate) boxes: &'a [u64; 36992],
+    ghost few: { t.k ≤ 64 },
 }
 
-// The rows of every sender, stored, and their sizes.
-pub(crate) fn fill(
-    rows: &mut [u64; 256],
-    t: Config,
-    takers: Takers,
-    reports: bool,
-    boxes: &[u64; 36992],
-) -> Sizes
-    requires { t.k ≤ 64 }
-    ensures { Rules.HoldReceivers Rules.AnySender t.k (root_of t) takers reports boxes.now rows.new result }
-{
-    let k = t.k;
-    let root = aggregate::root(t);
-    let mut sizes = rows::no_sizes();
-    for sender in 0..k {
-        let four = find_four(root, takers, reports, boxes, sender);
-        sizes = rows::store(rows, sizes, sender, four);
+impl Waiting<'_> {
+    // The rows of a sender: who can take what its mailboxes hold, and the report. Two stay empty. Rows and sizes are two values, no struct: the
+    // search takes them as two, and its promise, which README names, would name both fields all the same.
+    #[tactic(auto, unfolding(crate::specs::Internal::Receivers::receivers_of))]
+    fn four(&self, sender: u8) -> Four
+        requires { sender < self.now.t.k }
+        ensures { AreFour (λ kind. Rules.receivers_of (root_of self.now.t) self.now.takers self.now.reports self.now.boxes.now kind sender) result }
+    {
+        let s = sender as usize;
+        let starts = self.boxes[s];
+        let answers = self.boxes[64 + s];
+        let first = find_deliverable(sender, starts, answers, self.takers);
+        let second = bit_if((sender == aggregate::root(self.t)) & self.reports, sender);
+        Four {
+            first,
+            second,
+            third: 0,
+            fourth: 0,
+        }
     }
-    sizes
-}
 
-// The rows after a step, where they held those before it. Where the step changed who takes a message, every sender's are found anew; else
-// only those of its two stations.
-pub(crate) fn follow(
-    rows: &mut [u64; 256],
-    sizes: Sizes,
-    t: Config,
-    old: Takers,
-    takers: Takers,
-    reports: bool,
-    boxes: &[u64; 36992],
-    step: Step,
-) -> Sizes
-    requires places { (t.k ≤ 64) × ((step.sender < t.k) × (step.receiver < t.k)) }
-    requires rows { Rules.HoldReceivers (Others step) t.k (root_of t) old reports boxes.now rows.old sizes }
-    ensures { Rules.HoldReceivers Rules.AnySender t.k (root_of t) takers reports boxes.now rows.new result }
-{
-    if takers == old {
-        let root = aggregate::root(t);
-        let sent = find_four(root, takers, reports, boxes, step.sender);
-        let one = rows::replace(rows, sizes, step.sender, sent);
-        let received = find_four(root, takers, reports, boxes, step.receiver);
-        return rows::replace(rows, one, step.receiver, received);
+    // The rows of every sender, stored, and their sizes.
+    pub(crate) fn fill(&self, rows: &mut [u64; 256]) -> Sizes
+        ensures { Rules.HoldReceivers Rules.AnySender self.now.t self.now.takers self.now.reports self.now.boxes.now rows.new result }
+    {
+        let mut sizes = rows::no_sizes();
+        for sender in 0..self.t.k {
+            sizes = rows::store(rows, sizes, sender, self.four(sender));
+        }
+        sizes
     }
-    fill(rows, t, takers, reports, boxes)
+
+    // The rows after a step, where they held those before it. Where the step changed who takes a message, every sender's are found anew; else
+    // only those of its two stations.
+    pub(crate) fn follow(
+        &self,
+        rows: &mut [u64; 256],
+        sizes: Sizes,
+        old: Takers,
+        step: Step,
+    ) -> Sizes
+        requires places { (step.sender < self.now.t.k) × (step.receiver < self.now.t.k) }
+        requires rows { Rules.HoldReceivers (Others step) self.now.t old self.now.reports self.now.boxes.now rows.old sizes }
+        ensures { Rules.HoldReceivers Rules.AnySender self.now.t self.now.takers self.now.reports self.now.boxes.now rows.new result }
+    {
+        if self.takers == old {
+            let one = rows::replace(rows, sizes, step.sender, self.four(step.sender));
+            return rows::replace(rows, one, step.receiver, self.four(step.receiver));
+        }
+        self.fill(rows)
+    }
 }
 
 // Whether the root may report.

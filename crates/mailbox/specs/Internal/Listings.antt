@@ -1,6 +1,5 @@
 -- What the code knows of a net with mail whose steps are listed.
 use Rattle.std.specs.Prelude.{◌≡◌, length}
-use Rattle.aggregate.specs.Aggregate.{root_of}
 use Rattle.mailbox.specs.declared.kind.Listing.{Listing}
 use Rattle.mailbox.specs.Net.{Net}
 use Rattle.mailbox.specs.Internal.Receivers.{root_reports, takers_of, HoldReceivers, AnySender}
@@ -10,4 +9,4 @@ pub record Lists (net : Net) (l : Listing) : Type 0 where
   pub long : length net.boxes ≡ 36992
   pub full : length net.stations ≡ 64
   pub known : l.takers ≡ takers_of net.config.k net.stations
-  pub holds : HoldReceivers AnySender net.config.k (root_of net.config) l.takers (root_reports net.config net.stations) net.boxes l.rows l.sizes
+  pub holds : HoldReceivers AnySender net.config l.takers (root_reports net.config net.stations) net.boxes l.rows l.sizes

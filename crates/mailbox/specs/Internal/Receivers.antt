@@ -70,8 +70,8 @@ receivers_of root takers reports boxes kind s =
     (cond (eqb kind report) (bit_if (eqb s root && reports) s) 0)
 
 -- rows that hold the receivers of some senders, four rows a sender, and their sizes
-abbrev pub HoldReceivers : (ℕ → Type 0) → ℕ → ℕ → Takers → Bool → List ℕ → List ℕ → Sizes → Type 0
-HoldReceivers those k root takers reports boxes rows z = HoldRows those k (receivers_of root takers reports boxes) rows z
+abbrev pub HoldReceivers : (ℕ → Type 0) → Config → Takers → Bool → List ℕ → List ℕ → Sizes → Type 0
+HoldReceivers those t takers reports boxes rows z = HoldRows those t.k (receivers_of (root_of t) takers reports boxes) rows z
 
 -- every sender
 abbrev pub AnySender : ℕ → Type 0

@@ -2,7 +2,7 @@
 -- leave the form, and who takes a message and the rows are found anew. Assumes nothing.
 use Rattle.std.proofs.Common.{sym, ◌∙◌}
 use Rattle.mailbox.proofs.FormAfter.{step_receives}
-use Rattle.mailbox.proofs.Going.{made-is, root-low, both_low, decides, others-held, lists_further}
+use Rattle.mailbox.proofs.Going.{made-is, few-told, root-low, both_low, decides, others-held, lists_further}
 use Rattle.mailbox.proofs.kind.MailingKind.advance.Goals as goal
 
 pub make-next-requires-clause-places : goal.make-next-requires-clause-places
@@ -19,15 +19,18 @@ returns-then-not-is_bounded-clause-formed c =
     sym (decides c.requires.lists c.requires.formed c.config_in-t.ensures c.args.step c.requires.may c.make-next.ensures.made
     ∙ sym c.is_bounded.ensures ∙ c.if-not-is_bounded.true)
 
-pub root_reports-reports-requires : goal.root_reports-reports-requires
-root_reports-reports-requires c = root-low c.requires.lists c.requires.formed c.config_in-t.ensures
+pub root_reports-requires : goal.root_reports-requires
+root_reports-requires c = root-low c.requires.lists c.requires.formed c.config_in-t.ensures
+
+pub invariant_of-waiting : goal.invariant_of-waiting
+invariant_of-waiting c = record { few = few-told c.requires.lists c.requires.formed c.config_in-t.ensures }
 
 pub follow-l-requires-clause-places : goal.follow-l-requires-clause-places
 follow-l-requires-clause-places c = both_low c.requires.lists c.requires.formed c.config_in-t.ensures c.args.step c.requires.may
 
 pub follow-l-requires-clause-rows : goal.follow-l-requires-clause-rows
 follow-l-requires-clause-rows c =
-    others-held c.requires.lists c.requires.formed c.config_in-t.ensures c.args.step c.requires.may c.make-next.ensures.made c.root_reports-reports.ensures
+    others-held c.requires.lists c.requires.formed c.config_in-t.ensures c.args.step c.requires.may c.make-next.ensures.made c.root_reports.ensures
 
 pub returns-clause-made : goal.returns-clause-made
 returns-clause-made c = made-is _ c.args.step c.make-next.ensures.made
@@ -40,4 +43,4 @@ returns-clause-formed c =
 pub returns-clause-lists : goal.returns-clause-lists
 returns-clause-lists c =
     λ _. lists_further c.requires.lists c.requires.formed c.config_in-t.ensures c.args.step c.requires.may c.make-next.ensures.made
-    c.root_reports-reports.ensures c.retake-takers.ensures c.follow-l.ensures
+    c.root_reports.ensures c.retake-takers.ensures c.follow-l.ensures

@@ -19,13 +19,13 @@ few c e = subst (λ (t : Config). t.k ≤ 64) (sym e) (k_most _ (formed c))
 pub find_takers-takers-requires : goal.find_takers-takers-requires
 find_takers-takers-requires c = few (goal.at.find_takers-takers-requires c).Else-not-is_well_formed c.config_in-t.ensures
 
-pub root_reports-reports-requires : goal.root_reports-reports-requires
-root_reports-reports-requires c =
-    let here = (goal.at.root_reports-reports-requires c).Else-not-is_well_formed in
+pub root_reports-requires : goal.root_reports-requires
+root_reports-requires c =
+    let here = (goal.at.root_reports-requires c).Else-not-is_well_formed in
     subst (λ (t : Config). root_of t < 64) (sym c.config_in-t.ensures) (root-placed _ (formed here))
 
-pub fill-l-requires : goal.fill-l-requires
-fill-l-requires c = few (goal.at.fill-l-requires c).Else-not-is_well_formed c.config_in-t.ensures
+pub invariant_of-waiting : goal.invariant_of-waiting
+invariant_of-waiting c = record { few = few (goal.at.invariant_of-waiting c).Else-not-is_well_formed c.config_in-t.ensures }
 
 pub returns-clause-lists : goal.returns-clause-lists
 returns-clause-lists c =
@@ -35,6 +35,6 @@ returns-clause-lists c =
       long = omega arith;
       full = length-stations c.args.line.now;
       known = c.find_takers-takers.ensures ∙ ap (λ (t : Config). takers_of t.k net.stations) config;
-      holds = held-told AnySender c.config_in-t.result c.find_takers-takers.result c.root_reports-reports.result net.stations net.boxes
-          config c.root_reports-reports.ensures c.fill-l.ensures;
+      holds = held-told AnySender c.config_in-t.result c.find_takers-takers.result c.root_reports.result net.stations net.boxes
+          config c.root_reports.ensures c.fill-l.ensures;
     }
