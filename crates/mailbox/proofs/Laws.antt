@@ -6,7 +6,6 @@ use Prim.Native.Nat.{ℕ, ◌≤◌, ◌<◌}
 use native.Mathlib.Omega.{arith}
 use lib.Dec.{eqb}
 use borrow.Author.Tests.{eq-eqb, not-true}
-use Rattle.finite.specs.Below.{all_below}
 use Rattle.finite.proofs.Cases.{clash, by_bool, by-sum, and_both, or_cases}
 use Rattle.finite.proofs.Below.{all_below-at}
 use Rattle.bitset.specs.Set.{member}
@@ -31,7 +30,7 @@ use Rattle.mail.specs.declared.Mailbox.{Mailbox}
 use Rattle.mail.specs.declared.Mailbox.TheVariants.{Empty, Full}
 use Rattle.mail.specs.declared.Message.TheVariants.{Start, Answer}
 use Rattle.mail.specs.Mail.{mailbox_bounded, starts_of, answers_of, box_at, brought_at}
-use Rattle.mailbox.specs.Net.{Net, station, are_bounded, well_formed}
+use Rattle.mailbox.specs.Net.{Net, station, row_bounded, are_bounded, well_formed}
 use Rattle.mailbox.specs.Delivery.{takes_from, taken}
 use Rattle.mailbox.specs.Rules.{delivery, may_step, rules}
 
@@ -66,7 +65,7 @@ module _ (net : Net) (f : well_formed net ≡ true) where
   unfolding are_bounded
   bounded_at s r hs hr =
       let k = net.config.k in
-      let row = all_below-at (λ i. all_below k (λ j. eqb i j || bounded_box i j)) k s form_parts.1 hs in
+      let row = all_below-at (row_bounded net.config net.boxes) k s form_parts.1 hs in
       all_below-at (λ j. eqb s j || bounded_box s j) k r row hr
 
   -- what is posted from one station to another is bounded

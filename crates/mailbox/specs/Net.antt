@@ -23,9 +23,13 @@ net_of line boxes = record { config = config_in line; stations = stations_in lin
 abbrev pub station : Net → ℕ → Station
 station net i = station_at net.stations i
 
--- "posted sums below 2^62", between different stations below k (Causes and numbers, form)
+-- "posted sums below 2^62", from s to the other stations below k (Causes and numbers, form)
+abbrev pub row_bounded : Config → List ℕ → ℕ → Bool
+row_bounded t boxes s = all_below t.k (λ r. eqb s r || mailbox_bounded t (box_at boxes s r) (brought_at t boxes s r))
+
+-- the same, from each station below k
 unfoldable pub are_bounded : Config → List ℕ → Bool
-are_bounded t boxes = all_below t.k (λ s. all_below t.k (λ r. eqb s r || mailbox_bounded t (box_at boxes s r) (brought_at t boxes s r)))
+are_bounded t boxes = all_below t.k (row_bounded t boxes)
 
 -- "Form (11)": the stations' and the mailboxes'
 unfoldable pub well_formed : Net → Bool

@@ -2,15 +2,14 @@
 // mailboxes are lent, and no call copies them.
 #![tactic(auto)]
 
-ghost use Rattle.std.specs.Prelude.{◌≡◌, true, false, ◌||◌, ◌<◌, ◌≤◌, eqb};
-ghost use Rattle.finite.specs.Below.{all_below};
+ghost use Rattle.std.specs.Prelude.{◌≡◌, true, ◌<◌, ◌≤◌};
 ghost use Rattle.aggregate.specs.Aggregate.{root_of, bounded};
 ghost use Rattle.linemap.specs.Openings.{opening_of};
 ghost use Rattle.schedule.specs.Outcome.{step_outcome_of, run_outcome_of};
 ghost use Rattle.schedule.specs.Draws.{step_on, draw_on, run_on};
 ghost use Rattle.mail.specs.Mail.{mailbox_bounded, box_at, brought_at};
 ghost use Rattle.stations.specs.Words.{spare_in};
-ghost use Rattle.mailbox.specs.Net.{net_of, station, are_bounded, well_formed, fresh_net};
+ghost use Rattle.mailbox.specs.Net.{net_of, station, row_bounded, are_bounded, well_formed, fresh_net};
 ghost use Rattle.mailbox.specs.Rules.{delivery, rules};
 ghost use Rattle.mailbox.specs.Opening.{mailbox_opening};
 ghost use Rattle.mailbox.specs.Internal.Receivers.{Made};
@@ -71,7 +70,7 @@ pub fn fresh(
 // a step that no `for` takes.
 fn is_row_bounded(t: Config, boxes: &[u64; 36992], s: u8) -> bool
     requires { (t.k ≤ 64) × (s < 64) }
-    ensures { result ≡ all_below t.k (λ r. eqb s r || mailbox_bounded t (box_at boxes.now s r) (brought_at t boxes.now s r)) }
+    ensures { result ≡ row_bounded t boxes.now s }
 {
     let answers = boxes[64 + (s as usize)];
     if answers == 0 {
@@ -96,12 +95,7 @@ fn are_bounded(t: Config, boxes: &[u64; 36992]) -> bool
     requires { t.k ≤ 64 }
     ensures { result ≡ are_bounded t boxes.now }
 {
-    for s in 0..t.k {
-        if !is_row_bounded(t, boxes, s) {
-            return false;
-        }
-    }
-    true
+    (0..t.k).all(|s| is_row_bounded(t, boxes, s))
 }
 
 fn is_well_formed(line: &[u64; 705], boxes: &[u64; 36992]) -> bool

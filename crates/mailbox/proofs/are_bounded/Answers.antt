@@ -1,27 +1,17 @@
--- `mailbox::are_bounded` meets its contract. Invariant: the rows passed are bounded. Assumes nothing.
-use mathlib.Core.Path.{◌≡◌, refl, sym, ◌∙◌}
+-- `mailbox::are_bounded` meets its contract: the rows are asked in turn. Assumes nothing.
+use mathlib.Core.Path.{refl, ap, ◌∙◌}
 use native.Mathlib.Omega.{arith}
-use Rattle.finite.specs.Below.{all_below}
-use Rattle.finite.proofs.Below.{all_below_more, all_below_fails}
-use Rattle.mailbox.specs.Net.{are_bounded}
+use Rattle.std.proofs.Common.{rules, tests}
+use Rattle.std.proofs.lemmas.Iterator.{YieldsList-from_range}
+use Rattle.std.proofs.lemmas.Iterator.Search.{all_from_yields_List}
+use Rattle.finite.proofs.Below.{all_below_ext, in_turn}
+use Rattle.mailbox.specs.Net.{row_bounded, are_bounded}
 use Rattle.mailbox.proofs.are_bounded.Goals as goal
-
-pub loop-s-init : goal.loop-s-init
-unfolding all_below
-loop-s-init c = refl
-
-pub returns-then-not-is_row_bounded : goal.returns-then-not-is_row_bounded
-unfolding are_bounded
-returns-then-not-is_row_bounded c =
-    sym (all_below_fails _ c.args.t.k c.loop-s.s c.loop-s-test.true (sym c.is_row_bounded.ensures ∙ c.if-not-is_row_bounded.true))
-
-pub loop-s-preserved : goal.loop-s-preserved
-loop-s-preserved c =
-    let l = c.loop-s in
-    all_below_more _ l.s ∙ rw (l.invariant, sym c.is_row_bounded.ensures ∙ c.if-not-is_row_bounded.false) refl
 
 pub returns : goal.returns
 unfolding are_bounded
 returns c =
-    let all : c.loop-s.s ≡ c.args.t.k = omega arith in
-    sym (rw all at c.loop-s.invariant)
+    let test = row_bounded c.args.t c.args.boxes.now in
+    all_from_yields_List test _ _ _ c.all.ensures.ran (YieldsList-from_range 0 c.args.t.k _ refl (omega arith)) (λ x b q k. search (rules, tests))
+    ∙ in_turn test 0 c.args.t.k
+    ∙ all_below_ext c.args.t.k _ _ (λ i l. ap test (omega arith))
