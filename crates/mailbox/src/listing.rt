@@ -63,7 +63,7 @@ fn find_deliverable(sender: u8, starts: u64, answers: u64, takers: Takers) -> u6
     bitset::without(all, sender)
 }
 
-// What waits in the mailboxes, and who takes it; whether the root may report.
+// What waits in the mailboxes, who takes it, and whether the root may report: the rows are found from these.
 #[derive(Drop)]
 pub(crate) struct Waiting<'a> {
     pub(crate) t: Config,
