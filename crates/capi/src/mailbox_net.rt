@@ -1,4 +1,5 @@
-// Stations with mail: the words of the stations and those of the mailboxes are lent to each call, which alters them there.
+// Stations with mail: the words of the stations and those of the mailboxes are lent to each call, which alters them there. C has no generic calls, so
+// each kind of net has its four.
 ghost use Rattle.std.specs.Prelude.{◌≡◌};
 ghost use Rattle.schedule.specs.Listing;
 ghost use Rattle.schedule.specs.Draws.{step_on, draw_on, run_on};
