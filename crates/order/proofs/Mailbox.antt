@@ -9,7 +9,6 @@ use lib.ListN.{get_or}
 use lib.Dec.{eqb}
 use borrow.Author.Tests.{lt-ltb, ne_eqb}
 use Rattle.finite.proofs.Cases.{by_bool, by_eq, or_right, eqb_self}
-use Rattle.finite.specs.Below.{all_below}
 use Rattle.finite.proofs.Below.{all_below_lem}
 use Rattle.bitset.specs.Set.{member}
 use Rattle.aggregate.specs.declared.Config.{Config}
@@ -27,7 +26,7 @@ use Rattle.mail.specs.declared.Message.TheVariants.{Start, Answer}
 use Rattle.mail.specs.declared.Mailbox.{Mailbox}
 use Rattle.mail.specs.declared.Mailbox.TheVariants.{Empty, Full}
 use Rattle.mail.specs.Mail.{mailbox_bounded, box_at, brought_at}
-use Rattle.mailbox.specs.Net.{Net, station, are_bounded, well_formed, fresh_net}
+use Rattle.mailbox.specs.Net.{Net, station, row_bounded, are_bounded, well_formed, fresh_net}
 use Rattle.mailbox.specs.Rules.{rules}
 use Rattle.mailbox.proofs.Starting.{fresh_shaped, fresh_box}
 use Rattle.order.proofs.Kind.{Ties}
@@ -93,7 +92,7 @@ module _ (t : Config) (counts neighbours : List ℕ) (web : Web (root_of t) t.k 
   unfolding well_formed are_bounded
   formed_of_lem n G F =
       rw (G.config_is, stations_formed t counts neighbours web c small n.stations G.places F.stations)
-      (all_below_lem (λ s. all_below t.k (λ r. eqb s r || mailbox_bounded t (box_at n.boxes s r) (brought_at t n.boxes s r))) t.k (λ x l.
+      (all_below_lem (row_bounded t n.boxes) t.k (λ x l.
       all_below_lem (λ r. eqb x r || mailbox_bounded t (box_at n.boxes x r) (brought_at t n.boxes x r)) t.k (λ y m.
       let v = brought_at t n.boxes x y in
       or_right (eqb x y) (mailbox_bounded t (box_at n.boxes x y) v)
