@@ -4,6 +4,7 @@ ghost use Rattle.rendezvous.specs.Rules.{rules};
 ghost use Rattle.rendezvous.specs.Internal.Listings.{Lists};
 
 use crate::listing::{NO_SENDS, Sends, States};
+use crate::telling::Opened;
 use crate::{figure, form, listing};
 use schedule::Step;
 use schedule::calls::Kind;
@@ -75,7 +76,8 @@ impl Kind for Meeting {
     }
 
     fn pick(net: &[u64; 705], _totals: &[u64; 576], l: &Listing, d: u16) -> Option<Step> {
-        listing::choose(net, &l.rows, l.sizes, stations::config_in(net), d)
+        let t = stations::config_in(net);
+        listing::choose(&Opened { net, t }, &l.rows, l.sizes, d)
     }
 
     // The form is tested once, by `list`: after that, only the receiver can break it. What the stations may send is found anew of the two that a

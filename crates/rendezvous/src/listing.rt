@@ -7,10 +7,11 @@ ghost use Rattle.stations.specs.Stations.{station_at};
 ghost use Rattle.stations.specs.Words.{stations_in};
 ghost use Rattle.rendezvous.specs.Net.{net_in, carrying_in};
 ghost use Rattle.rendezvous.specs.Rules.{rules};
-ghost use Rattle.rendezvous.specs.Internal.Receivers.{restated, sends_of, kept_at, Read};
+ghost use Rattle.rendezvous.specs.Internal.Receivers.{restated, sends_of, kept_at};
 ghost use Rattle.rendezvous.specs.Internal.Receivers.{Agree, Renewed, Surveyed, takers_in, HoldTakers, HoldSome};
 
-use crate::{CARRYING, form, telling};
+use crate::telling::Opened;
+use crate::{CARRYING, form};
 use aggregate::Config;
 use bitset::bit_if;
 use schedule::rows::{Four, Sizes};
@@ -189,37 +190,23 @@ pub(crate) fn follow(
 // The step that a draw picks where totals are carried back: of those that the rows list, and of the tells after them. A function of its own: put into
 // `choose`, it has every draw save registers and take its room on the stack.
 #[inline(never)]
-fn choose_beside(
-    net: &[u64; 705],
-    rows: &[u64; 256],
-    sizes: Sizes,
-    t: Config,
-    d: u16,
-) -> Option<Step>
-    requires read { Read net.now t }
-    requires back { carrying_in net.now ≡ 1 }
-    ensures { (kept : List ℕ) → Filled rules (net_in net.now kept) rows.now sizes
-        → result ≡ picked (listed rules (net_in net.now kept)) d }
+fn choose_beside(opened: &Opened<'_>, rows: &[u64; 256], sizes: Sizes, d: u16) -> Option<Step>
+    requires { carrying_in opened.now.net.now ≡ 1 }
+    ensures { (kept : List ℕ) → Filled rules (net_in opened.now.net.now kept) rows.now sizes
+        → result ≡ picked (listed rules (net_in opened.now.net.now kept)) d }
 {
     let mut tells = [0u64; 260];
-    telling::fill_tells(&mut tells, net, t);
-    rows::pick_beside(rows, sizes, &tells, t.k, d)
+    opened.fill_tells(&mut tells);
+    rows::pick_beside(rows, sizes, &tells, opened.t.k, d)
 }
 
 // The step that a draw picks.
-pub(crate) fn choose(
-    net: &[u64; 705],
-    rows: &[u64; 256],
-    sizes: Sizes,
-    t: Config,
-    d: u16,
-) -> Option<Step>
-    requires { Read net.now t }
-    ensures { (kept : List ℕ) → Filled rules (net_in net.now kept) rows.now sizes
-        → result ≡ picked (listed rules (net_in net.now kept)) d }
+pub(crate) fn choose(opened: &Opened<'_>, rows: &[u64; 256], sizes: Sizes, d: u16) -> Option<Step>
+    ensures { (kept : List ℕ) → Filled rules (net_in opened.now.net.now kept) rows.now sizes
+        → result ≡ picked (listed rules (net_in opened.now.net.now kept)) d }
 {
-    if form::carrying_in(net) == CARRYING {
-        return choose_beside(net, rows, sizes, t, d);
+    if form::carrying_in(opened.net) == CARRYING {
+        return choose_beside(opened, rows, sizes, d);
     }
-    rows::pick(rows, sizes, t.k, d)
+    rows::pick(rows, sizes, opened.t.k, d)
 }

@@ -61,38 +61,46 @@ pub(crate) fn keep_total(totals: &mut [u64; 576], t: Config, step: Step, s: Stat
     }
 }
 
-// The station that may tell i, once the desk has reported.
-fn find_teller(net: &[u64; 705], t: Config, i: u8) -> Option<u8>
-    requires read { Read net.now t }
-    requires low { i < 64 }
-    requires reported { Rules.is_reported (net_in net.now []) ≡ true }
-    ensures { (kept : List ℕ) → Teller (net_in net.now kept) i result }
-{
-    let root = aggregate::root(t);
-    let s = form::read(net, i);
-    let parent = s.parent;
-    if (i == root) | (s.state != FINISHED) | (t.k <= parent) {
-        return None;
-    }
-    if parent == root {
-        return Some(parent);
-    }
-    let p = form::read(net, parent);
-    if p.state == TOLD { Some(parent) } else { None }
+// A net in form, and what it was opened with.
+#[derive(Drop)]
+pub(crate) struct Opened<'a> {
+    pub(crate) net: &'a [u64; 705],
+    pub(crate) t: Config,
+    pub(crate) ghost read: { Read net.now t },
 }
 
-// The rows of the tells, a set of receivers for each sender.
-pub(crate) fn fill_tells(tells: &mut [u64; 260], net: &[u64; 705], t: Config)
-    requires read { Read net.now t }
-    requires empty { tells.old ≡ replicate 260 0 }
-    ensures { (kept : List ℕ) → AreTells (net_in net.now kept) t.k tells.new }
-{
-    let desk = form::read(net, aggregate::root(t));
-    if desk.state == FINISHED {
-        for i in 0..t.k {
-            if let Some(p) = find_teller(net, t, i) {
-                let at = 4 * (p as usize) + 4;
-                tells[at] += bitset::bit_if(true, i);
+impl Opened<'_> {
+    // The station that may tell i, once the desk has reported.
+    fn find_teller(&self, i: u8) -> Option<u8>
+        requires low { i < 64 }
+        requires reported { Rules.is_reported (net_in self.now.net.now []) ≡ true }
+        ensures { (kept : List ℕ) → Teller (net_in self.now.net.now kept) i result }
+    {
+        let root = aggregate::root(self.t);
+        let s = form::read(self.net, i);
+        let parent = s.parent;
+        if (i == root) | (s.state != FINISHED) | (self.t.k <= parent) {
+            return None;
+        }
+        if parent == root {
+            return Some(parent);
+        }
+        let p = form::read(self.net, parent);
+        if p.state == TOLD { Some(parent) } else { None }
+    }
+
+    // The rows of the tells, a set of receivers for each sender.
+    pub(crate) fn fill_tells(&self, tells: &mut [u64; 260])
+        requires { tells.old ≡ replicate 260 0 }
+        ensures { (kept : List ℕ) → AreTells (net_in self.now.net.now kept) self.now.t.k tells.new }
+    {
+        let desk = form::read(self.net, aggregate::root(self.t));
+        if desk.state == FINISHED {
+            for i in 0..self.t.k {
+                if let Some(p) = self.find_teller(i) {
+                    let at = 4 * (p as usize) + 4;
+                    tells[at] += bitset::bit_if(true, i);
+                }
             }
         }
     }

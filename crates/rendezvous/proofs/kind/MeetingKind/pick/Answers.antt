@@ -2,8 +2,8 @@
 use Rattle.rendezvous.proofs.Going.{read, filled}
 use Rattle.rendezvous.proofs.kind.MeetingKind.pick.Goals as goal
 
-pub choose-requires : goal.choose-requires
-choose-requires c = read c.args.net.now c.args._totals.now c.requires.formed c.config_in.ensures
+pub invariant_of-choose : goal.invariant_of-choose
+invariant_of-choose c = record { read = read c.args.net.now c.args._totals.now c.requires.formed c.config_in-t.ensures }
 
 pub returns : goal.returns
 returns c = c.choose.ensures c.args._totals.now (filled c.requires.lists c.requires.formed)

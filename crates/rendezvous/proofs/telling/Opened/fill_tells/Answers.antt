@@ -1,4 +1,4 @@
--- `rendezvous::telling::fill_tells` meets its contract. Invariant: the tells to receivers below i stand in the rows. Assumes nothing.
+-- `rendezvous::telling::Opened::fill_tells` meets its contract. Invariant: the tells to receivers below i stand in the rows. Assumes nothing.
 use mathlib.Core.Path.{◌≡◌, sym, ap, ◌∙◌, subst}
 use mathlib.Core.Bool.{false}
 use mathlib.Core.List.{List, []}
@@ -13,29 +13,29 @@ use Rattle.rendezvous.specs.Net.{Net, net_in, station}
 use Rattle.rendezvous.specs.Telling.{is_reported}
 use Rattle.rendezvous.specs.Internal.Receivers.{ToldBy, AreTells}
 use Rattle.rendezvous.proofs.Tells.{tells_none, tells_early, tells_skip, tells_fit, tells-next, tells_any}
-use Rattle.rendezvous.proofs.telling.fill_tells.Goals as goal
-use Rattle.rendezvous.proofs.telling.fill_tells.Goals.{Start, In-loop-i, In-Some, in-Some, in_default}
+use Rattle.rendezvous.proofs.telling.Opened.fill_tells.Goals as goal
+use Rattle.rendezvous.proofs.telling.Opened.fill_tells.Goals.{Start, In-loop-i, In-Some, in-Some, in_default}
 
 abbrev net : Start → Net
-net c = net_in c.args.net.now []
+net c = net_in c.args.self.now.net.now []
 
 few : (c : Start) → (net c).config.k ≤ 64
-few c = subst (λ (t : Config). t.k ≤ 64) c.requires.read.config c.requires.read.few
+few c = subst (λ (t : Config). t.k ≤ 64) c.args.self.now.read.config c.args.self.now.read.few
 
-same-k : (c : Start) → c.args.t.k ≡ (net c).config.k
-same-k c = ap (λ (t : Config). t.k) c.requires.read.config
+same-k : (c : Start) → c.args.self.now.t.k ≡ (net c).config.k
+same-k c = ap (λ (t : Config). t.k) c.args.self.now.read.config
 
 low : (c : In-loop-i) → c.loop-i.i < 64
-low c = omega (arith, c.loop-i-test.true, c.requires.read.few)
+low c = omega (arith, c.loop-i-test.true, c.args.self.now.read.few)
 
 -- who tells the station of a turn
-teller : (c : In-Some) → ToldBy (net_in c.args.net.now []) c.loop-i.i c.in-Some.p
+teller : (c : In-Some) → ToldBy (net_in c.args.self.now.net.now []) c.loop-i.i c.in-Some.p
 teller c = c.in-Some.ensures []
 
 pub loop-i-init : goal.loop-i-init
 loop-i-init c =
     let start = (goal.at.loop-i-init c).Start in
-    subst (AreTells (net start) 0) (sym c.requires.empty) (tells_none (net start) (few start))
+    subst (AreTells (net start) 0) (sym c.requires) (tells_none (net start) (few start))
 
 pub bounds-tells-at : goal.bounds-tells-at
 bounds-tells-at c = let at = goal.at.bounds-tells-at c in omega (arith, (teller at.In-Some).low, few at.Start)
@@ -62,19 +62,19 @@ loop-i-preserved c =
 pub returns-after-loop-i : goal.returns-after-loop-i
 returns-after-loop-i c kept =
     let l = c.loop-i in
-    let all : l.i ≡ c.args.t.k = omega arith in
-    tells_any c.args.net.now [] kept c.args.t.k l.tells (rw all at l.invariant)
+    let all : l.i ≡ c.args.self.now.t.k = omega arith in
+    tells_any c.args.self.now.net.now [] kept c.args.self.now.t.k l.tells (rw all at l.invariant)
 
 pub returns-else-desk-eq-FINISHED : goal.returns-else-desk-eq-FINISHED
 returns-else-desk-eq-FINISHED c kept =
     let start = (goal.at.returns-else-desk-eq-FINISHED c).Start in
-    let words = c.args.net.now in
+    let words = c.args.self.now.net.now in
     -- the desk
     let desk : c.read-desk.result ≡ station (net start) (root_of (net start).config) =
     c.read-desk.ensures
     ∙ ap (station (net start)) c.root.ensures
-    ∙ ap (λ (t : Config). station (net start) (root_of t)) c.requires.read.config in
+    ∙ ap (λ (t : Config). station (net start) (root_of t)) c.args.self.now.read.config in
     let early : is_reported (net start) ≡ false = ap (λ (s : Station). eqb s.state 2) (sym desk) ∙ ne_eqb _ 2 c.if-desk-eq-FINISHED.false in
-    tells_any words [] kept c.args.t.k _
-    (subst (λ (l : List ℕ). AreTells (net start) c.args.t.k l) (sym c.requires.empty)
+    tells_any words [] kept c.args.self.now.t.k _
+    (subst (λ (l : List ℕ). AreTells (net start) c.args.self.now.t.k l) (sym c.requires)
     (subst (λ (n : ℕ). AreTells (net start) n _) (sym (same-k start)) (tells_early (net start) (few start) early)))

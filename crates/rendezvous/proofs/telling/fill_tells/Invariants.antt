@@ -1,8 +1,0 @@
--- `rendezvous::telling::fill_tells` meets its contract. Invariant: the tells to receivers below i stand in the rows. Assumes nothing.
-use mathlib.Core.List.{[]}
-use Rattle.rendezvous.specs.Net.{net_in}
-use Rattle.rendezvous.specs.Internal.Receivers.{AreTells}
-use Rattle.rendezvous.proofs.telling.fill_tells.Given as goal
-
-abbrev pub invariant-loop-i : goal.invariant-loop-i
-invariant-loop-i l = AreTells (net_in l.net []) l.i l.tells
