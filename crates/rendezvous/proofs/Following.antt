@@ -4,14 +4,14 @@ use mathlib.Core.Path.{◌≡◌, sym, ◌∙◌, ap}
 use mathlib.Core.Bool.{Bool, true, false, ◌&&◌}
 use mathlib.Core.Logic.{◌⊎◌, inl, inr}
 use mathlib.Core.List.{List}
-use Prim.Native.Nat.{ℕ, ◌+◌, ◌<◌, ◌^◌}
-use native.Mathlib.Nat.{lt_of_le_of_lt}
+use Prim.Native.Nat.{ℕ, ◌+◌, ◌<◌}
 use native.Mathlib.Omega.{arith}
-use lib.Bits.{bit_and, and_le_r}
-use borrow.Author.Tests.{lt-ltb, ne_eqb}
+use lib.Bits.{bit_and}
+use borrow.Author.Tests.{lt-ltb, eq-eqb, ne_eqb, eqb-true, eqb-false}
+use Rattle.std.proofs.lemmas.Nat.Bits.{same_from_bits}
 use Rattle.finite.proofs.Cases.{by_bool, by_eq, by-sum, eqb_self, or_left, or_right, clash}
-use Rattle.bitset.specs.Set.{member, union, bit_if, put}
-use Rattle.bitset.proofs.Laws.{same_members, member_empty}
+use Rattle.bitset.specs.Set.{bit, member, union, bit_if, put}
+use Rattle.bitset.proofs.Laws.{member_empty}
 use Rattle.bitset.proofs.Selected.{bit_has, member-and}
 use Rattle.bitset.proofs.Unions.{member_union, member-put}
 use Rattle.aggregate.specs.declared.Config.{Config}
@@ -25,8 +25,14 @@ use Rattle.rendezvous.specs.declared.listing.Sends.{Sends}
 use Rattle.rendezvous.specs.Internal.Receivers.{takers_in, kept_at, Agree, Renewed, HoldTakers, HoldSome}
 use Rattle.rendezvous.proofs.Kept.{stored_other}
 
-and_lt : (a set : ℕ) → set < 2 ^ 64 → bit_and a set < 2 ^ 64
-and_lt a set h = lt_of_le_of_lt (and_le_r a set) h
+-- sets with the same members are the same, with no bound on them
+same_sets : (a b : ℕ) → ((i : ℕ) → member i a ≡ member i b) → a ≡ b
+unfolding member
+same_sets a b same =
+    same_from_bits a b (λ i.
+    by_eq (bit i a) 1
+    (λ e. e ∙ sym (eqb-true (bit i b) 1 (sym (same i) ∙ eq-eqb (bit i a) 1 e)))
+    (λ n. omega (arith, n, eqb-false (bit i b) 1 (sym (same i) ∙ ne_eqb (bit i a) 1 n))))
 
 pub hold_all : {those : ℕ → Type 0} {k : ℕ} {states : States} {sent : ℕ → Sends} {rows : List ℕ} {z : Sizes}
     → ((s : ℕ) → s < k → those s) → HoldSome those k states sent rows z → HoldTakers k states sent rows z
@@ -66,11 +72,11 @@ module _ (step : Step) (hs : step.sender < 64) (hr : step.receiver < 64) where
       (λ f. f)
 
   -- a part that misses both is cut the same by sets that agree on the others
-  same_cut : (part a b : ℕ) → a < 2 ^ 64 → b < 2 ^ 64 → ((i : ℕ) → Others step i → member i b ≡ member i a)
+  same_cut : (part a b : ℕ) → ((i : ℕ) → Others step i → member i b ≡ member i a)
       → ((i : ℕ) → member i (both_of step) ≡ true → member i part ≡ false) → bit_and part a ≡ bit_and part b
-  same_cut part a b ha hb agree none =
-      same_members 64 _ _ (and_lt part a ha) (and_lt part b hb)
-      (λ i l.
+  same_cut part a b agree none =
+      same_sets _ _
+      (λ i.
       let two : member i (both_of step) ≡ true → (member i part && member i a) ≡ (member i part && member i b) = λ t. rw (none i t) in
       member-and i part a
       ∙ by-sum (others_or_two step i)
@@ -80,8 +86,7 @@ module _ (step : Step) (hs : step.sender < 64) (hr : step.receiver < 64) where
       (λ e. two (ap (λ (n : ℕ). member n (both_of step)) e ∙ receiver_in))
       ∙ sym (member-and i part b))
 
-  module _ {old states : States} (A : Agree step old states) (was : (old.asleep < 2 ^ 64) × (old.active < 2 ^ 64))
-      (is : (states.asleep < 2 ^ 64) × (states.active < 2 ^ 64)) where
+  module _ {old states : States} (A : Agree step old states) where
     takers_stand : (kind : ℕ) (x : Sends) → met (both_of step) x ≡ 0 → takers_in kind x old ≡ takers_in kind x states
     unfolding takers_in
     takers_stand kind x e =
@@ -90,9 +95,9 @@ module _ (step : Step) (hs : step.sender < 64) (hr : step.receiver < 64) where
         let home : (i : ℕ) → member i (both_of step) ≡ true → member i x.home ≡ false =
         λ i. missed x i x.home e (λ t. member_union i x.starts x.home ∙ or_right (member i x.starts) _ t) in
         rw (
-          same_cut x.starts old.asleep states.asleep was.0 is.0 A.asleep_as starts,
-          same_cut x.starts old.active states.active was.1 is.1 A.active_as starts,
-          same_cut x.home old.active states.active was.1 is.1 A.active_as home,
+          same_cut x.starts old.asleep states.asleep A.asleep_as starts,
+          same_cut x.starts old.active states.active A.active_as starts,
+          same_cut x.home old.active states.active A.active_as home,
         )
 
     pub rows_stand : {k : ℕ} {sent : ℕ → Sends} {rows : List ℕ} {z : Sizes} → HoldSome (Others step) k old sent rows z

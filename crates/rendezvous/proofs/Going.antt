@@ -146,8 +146,8 @@ module _ {here : Net} {l : Listing} (L : Lists here l) (formed : well_formed her
     bounds : Bounds rules here s
     bounds = range_bounds rules here s (allowed_parts rules here s may).0
 
-    pub both_low : (t.k ≤ 64) × ((s.sender < t.k) × (s.receiver < t.k))
-    both_low = rw told (few, (bounds.sender-low, bounds.receiver-low))
+    pub both_low : (s.sender < t.k) × (s.receiver < t.k)
+    both_low = rw told (bounds.sender-low, bounds.receiver-low)
 
     sender-low : s.sender < 64
     sender-low = omega (arith, few, bounds.sender-low)

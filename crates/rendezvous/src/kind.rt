@@ -3,7 +3,7 @@ ghost use Rattle.rendezvous.specs.Net.{Net, net_in, beside_in};
 ghost use Rattle.rendezvous.specs.Rules.{rules};
 ghost use Rattle.rendezvous.specs.Internal.Listings.{Lists};
 
-use crate::listing::{NO_SENDS, Sends, States};
+use crate::listing::{NO_SENDS, Sends, States, Takable};
 use crate::telling::Opened;
 use crate::{figure, form, listing};
 use schedule::Step;
@@ -69,9 +69,10 @@ impl Kind for Meeting {
         let Some(states) = listing::survey(net, totals, &mut l.kept) else {
             return false;
         };
-        let t = stations::config_in(net);
         l.states = states;
-        l.sizes = listing::fill(&mut l.rows, t.k, &l.kept, states);
+        let k = stations::config_in(net).k;
+        let kept = &l.kept;
+        l.sizes = Takable { k, kept, states }.fill(&mut l.rows);
         true
     }
 
@@ -92,7 +93,9 @@ impl Kind for Meeting {
         if !form::keeps_form(net, t, step) {
             return false;
         }
-        l.sizes = listing::follow(&mut l.rows, l.sizes, t.k, &l.kept, old, states, step);
+        let k = t.k;
+        let kept = &l.kept;
+        l.sizes = Takable { k, kept, states }.follow(&mut l.rows, l.sizes, old, step);
         true
     }
 }

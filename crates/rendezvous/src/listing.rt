@@ -133,58 +133,67 @@ fn find_four(sends: Sends, states: States) -> Four
     }
 }
 
-// The rows of what is kept, stored, and their sizes.
-pub(crate) fn fill(rows: &mut [u64; 256], k: u8, kept: &[Sends; 64], states: States) -> Sizes
-    requires { k ≤ 64 }
-    ensures { HoldTakers k states (kept_at kept.now) rows.new result }
-{
-    let mut sizes = rows::no_sizes();
-    for sender in 0..k {
-        let sends = kept[sender as usize];
-        sizes = rows::store(rows, sizes, sender, find_four(sends, states));
-    }
-    sizes
-}
-
 // Below so many stations, all rows are found anew sooner than those are found that a change of states changes.
 const FEW: u8 = 16;
 
-// The rows after a step, where they held those before it. Of the senders that are not in the step, only those need theirs anew that may send to
-// one of its two stations, and none where it has left the states as they were.
-pub(crate) fn follow(
-    rows: &mut [u64; 256],
-    sizes: Sizes,
-    k: u8,
-    kept: &[Sends; 64],
-    old: States,
-    states: States,
-    step: Step,
-) -> Sizes
-    requires places { (k ≤ 64) × ((step.sender < k) × (step.receiver < k)) }
-    requires states { Agree step old states }
-    requires rows { HoldSome (Others step) k old (kept_at kept.now) rows.old sizes }
-    ensures { HoldTakers k states (kept_at kept.now) rows.new result }
-{
-    let same = states == old;
-    if !same & (k < FEW) {
-        return fill(rows, k, kept, states);
-    }
-    let sent = find_four(kept[step.sender as usize], states);
-    let one = rows::replace(rows, sizes, step.sender, sent);
-    let received = find_four(kept[step.receiver as usize], states);
-    let mut all = rows::replace(rows, one, step.receiver, received);
-    if same {
-        return all;
-    }
-    let both = bitset::union(bit_if(true, step.sender), bit_if(true, step.receiver));
-    for x in 0..k {
-        let sends = kept[x as usize];
-        let met = bitset::union(sends.starts, sends.home) & both;
-        if met != 0 {
-            all = rows::replace(rows, all, x, find_four(sends, states));
+// What k stations may send, and the states that let them take it.
+#[derive(Drop)]
+pub(crate) struct Takable<'a> {
+    pub(crate) k: u8,
+    pub(crate) kept: &'a [Sends; 64],
+    pub(crate) states: States,
+    pub(crate) ghost few: { k ≤ 64 },
+}
+
+impl Takable<'_> {
+    // The rows, stored, and their sizes.
+    pub(crate) fn fill(&self, rows: &mut [u64; 256]) -> Sizes
+        ensures { HoldTakers self.now.k self.now.states (kept_at self.now.kept.now) rows.new result }
+    {
+        let mut sizes = rows::no_sizes();
+        for sender in 0..self.k {
+            let sends = self.kept[sender as usize];
+            sizes = rows::store(rows, sizes, sender, find_four(sends, self.states));
         }
+        sizes
     }
-    all
+
+    // The rows after a step, where they held those before it. Of the senders that are not in the step, only those need theirs anew that may send
+    // to one of its two stations, and none where it has left the states as they were.
+    pub(crate) fn follow(
+        &self,
+        rows: &mut [u64; 256],
+        sizes: Sizes,
+        old: States,
+        step: Step,
+    ) -> Sizes
+        requires places { (step.sender < self.now.k) × (step.receiver < self.now.k) }
+        requires states { Agree step old self.now.states }
+        requires rows { HoldSome (Others step) self.now.k old (kept_at self.now.kept.now) rows.old sizes }
+        ensures { HoldTakers self.now.k self.now.states (kept_at self.now.kept.now) rows.new result }
+    {
+        let states = self.states;
+        let same = states == old;
+        if !same & (self.k < FEW) {
+            return self.fill(rows);
+        }
+        let sent = find_four(self.kept[step.sender as usize], states);
+        let one = rows::replace(rows, sizes, step.sender, sent);
+        let received = find_four(self.kept[step.receiver as usize], states);
+        let mut all = rows::replace(rows, one, step.receiver, received);
+        if same {
+            return all;
+        }
+        let both = bitset::union(bit_if(true, step.sender), bit_if(true, step.receiver));
+        for x in 0..self.k {
+            let sends = self.kept[x as usize];
+            let met = bitset::union(sends.starts, sends.home) & both;
+            if met != 0 {
+                all = rows::replace(rows, all, x, find_four(sends, states));
+            }
+        }
+        all
+    }
 }
 
 // The step that a draw picks where totals are carried back: of those that the rows list, and of the tells after them. A function of its own: put into

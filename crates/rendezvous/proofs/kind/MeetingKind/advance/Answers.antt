@@ -4,7 +4,7 @@ use Rattle.std.proofs.Common.{◌<◌, sym, ◌∙◌}
 use Rattle.schedule.proofs.Answers.{allowed_parts}
 use Rattle.rendezvous.specs.Rules.{rules}
 use Rattle.rendezvous.proofs.Laws.{places, sums-joinable}
-use Rattle.rendezvous.proofs.Going.{made-is, both_low, decides, agree, others_hold, lists_further}
+use Rattle.rendezvous.proofs.Going.{made-is, read, both_low, decides, agree, others_hold, lists_further}
 use Rattle.rendezvous.proofs.kind.MeetingKind.advance.Goals as goal
 use Rattle.rendezvous.proofs.kind.MeetingKind.advance.Goals.{Start}
 
@@ -33,6 +33,9 @@ pub returns-then-not-keeps_form-clause-formed : goal.returns-then-not-keeps_form
 returns-then-not-keeps_form-clause-formed c =
     sym (decides c.requires.lists c.requires.formed c.config_in-t.ensures c.args.step c.requires.may c.make.ensures.made
     ∙ sym c.keeps_form.ensures ∙ c.if-not-keeps_form.true)
+
+pub invariant_of-follow : goal.invariant_of-follow
+invariant_of-follow c = record { few = (read c.args.net.now c.args.totals.now c.requires.formed c.config_in-t.ensures).few }
 
 pub follow-l-requires-clause-places : goal.follow-l-requires-clause-places
 follow-l-requires-clause-places c = both_low c.requires.lists c.requires.formed c.config_in-t.ensures c.args.step c.requires.may

@@ -1,13 +1,10 @@
 -- `list` of stations that meet meets its contract: what the survey finds, and the rows that are filled from it. Assumes nothing.
-use Rattle.std.proofs.Common.{◌≤◌, sym, subst}
 use Rattle.stations.proofs.Words.{length-stations}
-use Rattle.aggregate.specs.declared.Config.{Config}
-use Rattle.rendezvous.proofs.Laws.{k_most}
-use Rattle.rendezvous.proofs.Going.{held-told}
+use Rattle.rendezvous.proofs.Going.{read, held-told}
 use Rattle.rendezvous.proofs.kind.MeetingKind.list.Goals as goal
 
-pub fill-l-requires : goal.fill-l-requires
-fill-l-requires c = subst (λ (t : Config). t.k ≤ 64) (sym c.config_in-t.ensures) (k_most _ c.in-Some.ensures.form)
+pub invariant_of-fill : goal.invariant_of-fill
+invariant_of-fill c = record { few = (read c.args.net.now c.args.totals.now c.in-Some.ensures.form c.config_in-k.ensures).few }
 
 pub returns-clause-lists : goal.returns-clause-lists
 returns-clause-lists c =
@@ -16,5 +13,5 @@ returns-clause-lists c =
       sends_are = found.sends_are;
       states_are = found.states_are;
       full = length-stations c.args.net.now;
-      held = held-told c.config_in-t.ensures c.fill-l.ensures;
+      held = held-told c.config_in-k.ensures c.fill-l.ensures;
     }

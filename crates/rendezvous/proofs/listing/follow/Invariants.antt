@@ -1,8 +1,0 @@
--- `rendezvous::listing::follow` meets its contract. Invariant: the rows are right of the senders below x and of those that may send to neither
--- station of the step. Assumes nothing.
-use Rattle.rendezvous.specs.Internal.Receivers.{kept_at, HoldSome}
-use Rattle.rendezvous.proofs.Following.{Passed}
-use Rattle.rendezvous.proofs.listing.follow.Given as goal
-
-abbrev pub invariant-loop-x : goal.invariant-loop-x
-invariant-loop-x l = HoldSome (Passed l.both (kept_at l.kept) l.x) l.k l.states (kept_at l.kept) l.rows l.all
