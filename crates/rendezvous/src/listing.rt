@@ -1,5 +1,5 @@
 // What each station may send, kept while a run goes on, and the rows of the allowed steps: for each sender and kind, the receivers, as a set.
-ghost use Rattle.std.specs.Prelude.{◌≡◌, List, ℕ, ◌≤◌, ◌<◌, length, eqb};
+ghost use Rattle.std.specs.Prelude.{◌≡◌, List, ℕ, ◌≤◌, ◌<◌};
 ghost use Rattle.schedule.specs.Listing.{listed};
 ghost use Rattle.schedule.specs.Draws.{picked};
 ghost use Rattle.schedule.specs.Internal.Rows.{AreFour, Others, Filled};
@@ -119,20 +119,6 @@ pub(crate) fn survey(
     Some(States { asleep, active })
 }
 
-// The rows of a sender: of what it may send, what stations in these states can take. Rows and sizes are two values, no struct: the search takes
-// them as two, and its promise, which README names, would name both fields all the same.
-#[tactic(auto, unfolding(crate::specs::Internal::Receivers::takers_in))]
-fn find_four(sends: Sends, states: States) -> Four
-    ensures { AreFour (λ kind. takers_in kind sends states) result }
-{
-    Four {
-        first: sends.starts & states.asleep,
-        second: sends.starts & states.active,
-        third: sends.home & states.active,
-        fourth: sends.report,
-    }
-}
-
 // Below so many stations, all rows are found anew sooner than those are found that a change of states changes.
 const FEW: u8 = 16;
 
@@ -146,14 +132,29 @@ pub(crate) struct Takable<'a> {
 }
 
 impl Takable<'_> {
-    // The rows, stored, and their sizes.
+    // The rows of a sender: of what it may send, what stations in these states can take.
+    #[tactic(auto, unfolding(crate::specs::Internal::Receivers::takers_in))]
+    fn find_four(&self, sender: u8) -> Four
+        requires { sender < self.now.k }
+        ensures { AreFour (λ kind. takers_in kind (kept_at self.now.kept.now sender) self.now.states) result }
+    {
+        let sends = self.kept[sender as usize];
+        Four {
+            first: sends.starts & self.states.asleep,
+            second: sends.starts & self.states.active,
+            third: sends.home & self.states.active,
+            fourth: sends.report,
+        }
+    }
+
+    // The rows, stored, and their sizes. These are two values, no struct: the search takes them as two, and its promise, which README names, would
+    // name both fields all the same.
     pub(crate) fn fill(&self, rows: &mut [u64; 256]) -> Sizes
         ensures { HoldTakers self.now.k self.now.states (kept_at self.now.kept.now) rows.new result }
     {
         let mut sizes = rows::no_sizes();
         for sender in 0..self.k {
-            let sends = self.kept[sender as usize];
-            sizes = rows::store(rows, sizes, sender, find_four(sends, self.states));
+            sizes = rows::store(rows, sizes, sender, self.find_four(sender));
         }
         sizes
     }
@@ -172,14 +173,13 @@ impl Takable<'_> {
         requires rows { HoldSome (Others step) self.now.k old (kept_at self.now.kept.now) rows.old sizes }
         ensures { HoldTakers self.now.k self.now.states (kept_at self.now.kept.now) rows.new result }
     {
-        let states = self.states;
-        let same = states == old;
+        let same = self.states == old;
         if !same & (self.k < FEW) {
             return self.fill(rows);
         }
-        let sent = find_four(self.kept[step.sender as usize], states);
+        let sent = self.find_four(step.sender);
         let one = rows::replace(rows, sizes, step.sender, sent);
-        let received = find_four(self.kept[step.receiver as usize], states);
+        let received = self.find_four(step.receiver);
         let mut all = rows::replace(rows, one, step.receiver, received);
         if same {
             return all;
@@ -189,7 +189,7 @@ impl Takable<'_> {
             let sends = self.kept[x as usize];
             let met = bitset::union(sends.starts, sends.home) & both;
             if met != 0 {
-                all = rows::replace(rows, all, x, find_four(sends, states));
+                all = rows::replace(rows, all, x, self.find_four(x));
             }
         }
         all

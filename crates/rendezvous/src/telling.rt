@@ -1,5 +1,5 @@
 // Totals carried back to the heads (document 02, request 8): kind 5, and what is kept by it.
-ghost use Rattle.std.specs.Prelude.{◌≡◌, true, cond, List, [], ℕ, ◌≤◌, ◌<◌, replicate, set, eqb};
+ghost use Rattle.std.specs.Prelude.{◌≡◌, true, cond, List, [], ℕ, ◌<◌, replicate, set, eqb};
 ghost use Rattle.aggregate.specs.Aggregate.{root_of, clipped};
 ghost use Rattle.station.specs.Events.{finished};
 ghost use Rattle.stations.specs.Kept.{kept_in, kept_read};

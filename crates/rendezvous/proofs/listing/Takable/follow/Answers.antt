@@ -30,24 +30,26 @@ held c = rw (same c) c.requires.rows
 pub returns-then-same : goal.returns-then-same
 returns-then-same c =
     let step = c.args.step in
+    let few = c.args.self.now.few in
     let p = c.requires.places in
     let one = c.replace-one.ensures in
     let all = c.replace-all.ensures in
-    let sent = rows_replaced (held c).hold c.args.self.now.few step.sender p.0 c.find_four-sent.ensures one.rows one.sizes in
-    let received = rows_replaced sent c.args.self.now.few step.receiver p.1 c.find_four-received.ensures all.rows all.sizes in
+    let sent = rows_replaced (held c).hold few step.sender p.0 c.find_four-sent.ensures one.rows one.sizes in
+    let received = rows_replaced sent few step.receiver p.1 c.find_four-received.ensures all.rows all.sizes in
     hold_all (λ s m. others_or_two step s) (record { hold = received })
 
 pub loop-x-init : goal.loop-x-init
 loop-x-init c =
     let a = c.args in
     let step = a.step in
+    let few = a.self.now.few in
     let p = c.requires.places in
     let set = c.union-both.ensures ∙ ap₂ union c.bit_if.ensures c.bit_if-2.ensures in
-    let stand = rows_stand step (omega (arith, c.args.self.now.few, p.0)) (omega (arith, c.args.self.now.few, p.1)) c.requires.states c.requires.rows in
+    let stand = rows_stand step (omega (arith, few, p.0)) (omega (arith, few, p.1)) c.requires.states c.requires.rows in
     let one = c.replace-one.ensures in
     let all = c.replace-all.ensures in
-    let sent = rows_replaced stand.hold c.args.self.now.few step.sender p.0 c.find_four-sent.ensures one.rows one.sizes in
-    let received = rows_replaced sent c.args.self.now.few step.receiver p.1 c.find_four-received.ensures all.rows all.sizes in
+    let sent = rows_replaced stand.hold few step.sender p.0 c.find_four-sent.ensures one.rows one.sizes in
+    let received = rows_replaced sent few step.receiver p.1 c.find_four-received.ensures all.rows all.sizes in
     passed_none _ step set (record { hold = received })
 
 pub loop-x-preserved : goal.loop-x-preserved
