@@ -122,7 +122,7 @@ pub(crate) fn survey(
 // Below so many stations, all rows are found anew sooner than those are found that a change of states changes.
 const FEW: u8 = 16;
 
-// What k stations may send, and the states that let them take it.
+// What k stations may send, and the states of those that can take it.
 #[derive(Drop)]
 pub(crate) struct Takable<'a> {
     pub(crate) k: u8,
