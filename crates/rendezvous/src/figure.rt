@@ -44,7 +44,7 @@ pub(crate) fn may_step(t: Config, step: Step, s: Station, r: Station) -> bool
             _ => false,
         },
         REPORT => s.is_ready(),
-        _ => false,
+        0 | 5..=255 => false,
     }
 }
 
