@@ -8,6 +8,7 @@ use native.Mathlib.Omega.{arith}
 use lib.Dec.{eqb, ltb}
 use lib.Pow.{pow_pos, pow_mono, shr-shr, shr_le}
 use borrow.Author.Tests.{eqb-true, eqb-false, eq-eqb, ne_eqb, lt-ltb, ltb-true, ltb-false}
+use Rattle.std.proofs.lemmas.Nat.Bits.{same_from_bits}
 use Rattle.finite.specs.Sum.{fold_to, indicator}
 use Rattle.finite.specs.Internal.Monoid.{addition, sum_to}
 use Rattle.finite.proofs.Cases.{by_bool, by_eq, clash}
@@ -33,14 +34,21 @@ pub member_shift : (k j s : ℕ) → member j (s / 2 ^ k) ≡ member (k + j) s
 unfolding member
 member_shift k j s = rw (shr-shr s k j)
 
--- two sets with the same members are the same
-pub same_members : (k s t : ℕ) → s < 2 ^ k → t < 2 ^ k → ((j : ℕ) → j < k → member j s ≡ member j t) → s ≡ t
+-- what is a member of both or of neither has the same bit in both
+bit_of_members : (s t j : ℕ) → member j s ≡ member j t → bit j s ≡ bit j t
 unfolding member
-same_members k s t hs ht same =
-    same_bits k s t hs ht (λ j l.
+bit_of_members s t j same =
     by_eq (bit j s) 1
-    (λ e. e ∙ sym (eqb-true (bit j t) 1 (sym (same j l) ∙ eq-eqb (bit j s) 1 e)))
-    (λ ne. omega (arith, ne, eqb-false (bit j t) 1 (sym (same j l) ∙ ne_eqb (bit j s) 1 ne))))
+    (λ e. e ∙ sym (eqb-true (bit j t) 1 (sym same ∙ eq-eqb (bit j s) 1 e)))
+    (λ ne. omega (arith, ne, eqb-false (bit j t) 1 (sym same ∙ ne_eqb (bit j s) 1 ne)))
+
+-- two sets with the same members are the same
+pub same_sets : (s t : ℕ) → ((j : ℕ) → member j s ≡ member j t) → s ≡ t
+same_sets s t same = same_from_bits s t (λ j. bit_of_members s t j (same j))
+
+-- and so are two below a bound with the same members below it
+pub same_members : (k s t : ℕ) → s < 2 ^ k → t < 2 ^ k → ((j : ℕ) → j < k → member j s ≡ member j t) → s ≡ t
+same_members k s t hs ht same = same_bits k s t hs ht (λ j l. bit_of_members s t j (same j l))
 
 -- a set without members is the empty set
 pub empty_of_members : (k s : ℕ) → s < 2 ^ k → ((j : ℕ) → j < k → member j s ≡ false) → s ≡ 0

@@ -7,11 +7,10 @@ use mathlib.Core.List.{List}
 use Prim.Native.Nat.{ℕ, ◌+◌, ◌<◌}
 use native.Mathlib.Omega.{arith}
 use lib.Bits.{bit_and}
-use borrow.Author.Tests.{lt-ltb, eq-eqb, ne_eqb, eqb-true, eqb-false}
-use Rattle.std.proofs.lemmas.Nat.Bits.{same_from_bits}
+use borrow.Author.Tests.{lt-ltb, ne_eqb}
 use Rattle.finite.proofs.Cases.{by_bool, by_eq, by-sum, eqb_self, or_left, or_right, clash}
-use Rattle.bitset.specs.Set.{bit, member, union, bit_if, put}
-use Rattle.bitset.proofs.Laws.{member_empty}
+use Rattle.bitset.specs.Set.{member, union, bit_if, put}
+use Rattle.bitset.proofs.Laws.{member_empty, same_sets}
 use Rattle.bitset.proofs.Selected.{bit_has, member-and}
 use Rattle.bitset.proofs.Unions.{member_union, member-put}
 use Rattle.aggregate.specs.declared.Config.{Config}
@@ -24,15 +23,6 @@ use Rattle.rendezvous.specs.declared.listing.States.{States}
 use Rattle.rendezvous.specs.declared.listing.Sends.{Sends}
 use Rattle.rendezvous.specs.Internal.Receivers.{takers_in, kept_at, Agree, Renewed, HoldTakers, HoldSome}
 use Rattle.rendezvous.proofs.Kept.{stored_other}
-
--- sets with the same members are the same, with no bound on them
-same_sets : (a b : ℕ) → ((i : ℕ) → member i a ≡ member i b) → a ≡ b
-unfolding member
-same_sets a b same =
-    same_from_bits a b (λ i.
-    by_eq (bit i a) 1
-    (λ e. e ∙ sym (eqb-true (bit i b) 1 (sym (same i) ∙ eq-eqb (bit i a) 1 e)))
-    (λ n. omega (arith, n, eqb-false (bit i b) 1 (sym (same i) ∙ ne_eqb (bit i a) 1 n))))
 
 pub hold_all : {those : ℕ → Type 0} {k : ℕ} {states : States} {sent : ℕ → Sends} {rows : List ℕ} {z : Sizes}
     → ((s : ℕ) → s < k → those s) → HoldSome those k states sent rows z → HoldTakers k states sent rows z
