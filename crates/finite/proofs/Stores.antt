@@ -15,7 +15,7 @@ use Rattle.finite.specs.Internal.Putting.{Room, Put}
 use Rattle.finite.proofs.Cases.{by_eq}
 
 -- a run right after another is one run
-sets-sets : (vs ws l : List ℕ) (at : ℕ) → sets (sets l at vs) (at + length vs) ws ≡ sets l at (vs ++ ws)
+pub sets-sets : (vs ws l : List ℕ) (at : ℕ) → sets (sets l at vs) (at + length vs) ws ≡ sets l at (vs ++ ws)
 sets-sets [] ws l at = rw add-zero
 sets-sets (v ∷ vs) ws l at =
     ap (λ (n : ℕ). sets (sets (set l at v) (suc at) vs) n ws) (add-suc at (length vs) ∙ sym (suc-add at (length vs)))

@@ -1,14 +1,14 @@
 -- The laws of `each`, pieces one after the other, of `column`, places with zeros past the last, and of `grid`, rows of 8 places.
 -- Assumes nothing.
-use Rattle.std.proofs.Common.{◌≡◌, ℕ, zero, suc, ◌+◌, ◌-◌, ◌*◌, ◌<◌, ◌≤◌, List, [], ◌∷◌, ◌++◌, length, get_or, set, replicate, sym, refl, ap, ◌∙◌, ap₂, ⊎_elim, append_assoc, append-nil, eq-or-lt_of_le, add-one, arith, length-append, get_or-append-add}
+use Rattle.std.proofs.Common.{◌≡◌, ℕ, zero, suc, ◌+◌, ◌-◌, ◌*◌, ◌<◌, ◌≤◌, List, [], ◌∷◌, ◌++◌, length, get_or, set, drop, replicate, sym, refl, ap, ◌∙◌, ap₂, ⊎_elim, append_assoc, append-nil, eq-or-lt_of_le, add-one, arith, length-append, get_or-append-add}
 use lib.ListN.{length-replicate, replicate-append-replicate, get_or-append}
-use lib.Seq.{set_at, append_snoc}
+use lib.Seq.{set_at, take_at, drop_at, append_snoc}
+use borrow.Rule.Slice.PartMut.{put_mid}
+use Rattle.std.proofs.lemmas.List.{drop-replicate}
 use Rattle.finite.specs.Below.{each, tabulate}
 use Rattle.finite.proofs.Below.{length-tabulate, get_d_tabulate}
 use Rattle.linemap.specs.Maps.{place}
 use Rattle.linemap.specs.Reading.{column, grid}
-use Rattle.linemap.specs.Internal.Stages.{put}
-use Rattle.linemap.proofs.Put.{put_between}
 
 -- n pieces of w elements
 pub length-each : (f : ℕ → List ℕ) (w : ℕ) → ((i : ℕ) → length (f i) ≡ w) → (n : ℕ) → length (each f n) ≡ w * n
@@ -20,10 +20,6 @@ length-each f w h (suc n) =
 pub each_more : (f : ℕ → List ℕ) (n : ℕ) → each f (n + 1) ≡ each f n ++ f n
 unfolding each
 each_more f n = rw add-one
-
-pub tabulate_snoc : (f : ℕ → ℕ) (n : ℕ) → tabulate (n + 1) f ≡ tabulate n f ++ (f n ∷ [])
-unfolding tabulate
-tabulate_snoc f n = each_more (λ i. f i ∷ []) n
 
 -- piece i of n, with what stands before it and after it
 pub each-split : (f : ℕ → List ℕ) (n i : ℕ) → i < n → (rest : List ℕ) × (each f n ≡ each f i ++ (f i ++ rest))
@@ -85,6 +81,10 @@ grid-same f g c k h =
     ap (λ (x : List ℕ). x ++ replicate (8 * (64 - k)) 0)
     (each_same _ _ k (λ i l. column-same 8 (f i) (g i) c (λ j m. h i j l m)))
 
+-- a part that starts right after p
+put_mid_after : (p l vs : List ℕ) (at n : ℕ) → length p ≡ at → put_mid at n (p ++ l) vs ≡ p ++ (vs ++ drop n l)
+put_mid_after p l vs at n e = ap₂ (λ (x y : List ℕ). x ++ (vs ++ drop n y)) (take_at p l at e) (drop_at p l at e)
+
 -- zeros in two parts
 zeros-split : (n a b : ℕ) → n ≡ a + b → ◌≡◌ {A = List ℕ} (replicate n 0) (replicate a 0 ++ replicate b 0)
 zeros-split n a b e = ap (λ (x : ℕ). replicate x 0) e ∙ sym (replicate-append-replicate a b 0)
@@ -123,20 +123,19 @@ module _ (f : ℕ → ℕ → ℕ) (c : ℕ) (few : c ≤ 8) where
   grid-none = refl
 
   -- one station more
-  pub grid_more : (i : ℕ) → i < 64 → put (grid f c i) (8 * i) (tabulate c (f i)) ≡ grid f c (i + 1)
-  unfolding grid column each
+  pub grid_more : (i : ℕ) → i < 64 → put_mid (8 * i) (place i c - 8 * i) (grid f c i) (tabulate c (f i)) ≡ grid f c (i + 1)
+  unfolding grid column
   grid_more i h =
       let row : List ℕ = tabulate c (f i) in
-      let after : ℕ = 8 * (64 - (i + 1)) in
-      let left : ℕ = 8 * (64 - i) - c in
-      let split : 8 * (64 - i) ≡ c + left = omega arith in
-      let same : left ≡ 8 - c + after = omega arith in
       let own : List ℕ = replicate (8 - c) 0 in
-      let zeros : List ℕ = replicate after 0 in
+      let zeros : List ℕ = replicate (8 * (64 - (i + 1))) 0 in
+      let rest : List ℕ = replicate (8 * (64 - i)) 0 in
+      let taken : place i c - 8 * i ≡ c = omega arith in
+      let left : 8 * (64 - i) - c ≡ 8 - c + 8 * (64 - (i + 1)) = omega arith in
+      let behind : drop (place i c - 8 * i) rest ≡ own ++ zeros =
+      rw (taken, drop-replicate {X = ℕ} c (8 * (64 - i)) 0) (zeros-split (8 * (64 - i) - c) (8 - c) (8 * (64 - (i + 1))) left) in
       let grouped : rows i ++ (row ++ (own ++ zeros)) ≡ rows i ++ (row ++ own) ++ zeros = simp append_assoc in
-      ap (λ (x : List ℕ). put (rows i ++ x) (8 * i) row) (zeros-split (8 * (64 - i)) c left split)
-      ∙ put_between (rows i) (replicate c 0) row (replicate left 0) (8 * i) (length-grid-rows i)
-      (length-replicate {A = ℕ} c 0 ∙ sym (length-tabulate (f i) c))
-      ∙ ap (λ (x : List ℕ). rows i ++ (row ++ x)) (zeros-split left (8 - c) after same)
+      put_mid_after (rows i) rest row (8 * i) (place i c - 8 * i) (length-grid-rows i)
+      ∙ ap (λ (x : List ℕ). rows i ++ (row ++ x)) behind
       ∙ grouped
-      ∙ ap (λ (n : ℕ). rows n ++ replicate after 0) (sym (add-one i))
+      ∙ ap (λ (x : List ℕ). x ++ zeros) (sym (each_more (λ i. column 8 (f i) c) i))

@@ -1,14 +1,16 @@
 -- The stored form is what the writer's parts lay over the front of the buffer, one after the other; the words summed on the way are
 -- those of the body. Assumes nothing.
-use Rattle.std.proofs.Common.{◌≡◌, ℕ, ◌+◌, ◌-◌, ◌*◌, ◌/◌, ◌%◌, ◌^◌, ◌≤◌, List, ◌++◌, length, drop, ap, ◌∙◌, arith, length-append}
+use Rattle.std.proofs.Common.{◌≡◌, ℕ, ◌+◌, ◌-◌, ◌*◌, ◌/◌, ◌%◌, ◌^◌, ◌≤◌, List, ◌++◌, length, slice_index, take, drop, ap, ◌∙◌, arith, length-append, get_or-take, get_or-drop}
+use borrow.Rule.Slice.PartMut.{mid_of, mid_len}
 use Rattle.finite.specs.Numbers.{bytes}
 use Rattle.linemap.specs.Words.{sum_words}
-use Rattle.linemap.specs.Internal.Stages.{put}
+use Rattle.linemap.specs.Internal.Stages.{put, bytes_of_counts}
 use Rattle.finite.specs.Below.{each}
+use Rattle.linemap.specs.Maps.{place}
 use Rattle.linemap.specs.Stored.{row_length, trailer_length, length_of, word_count, check_word}
 use Rattle.linemap.specs.Stored.{count_bytes, row_bytes, trailer_bytes, body_of, stored_of}
 use Rattle.linemap.specs.declared.Map.{Map}
-use Rattle.linemap.proofs.Each.{length-each}
+use Rattle.linemap.proofs.Each.{length-each, each_same}
 use Rattle.linemap.proofs.Put.{lay, put_front}
 use Rattle.finite.proofs.Digits.{length-bytes}
 use Rattle.linemap.proofs.Words.{front_sum}
@@ -16,6 +18,21 @@ use Rattle.linemap.proofs.Words.{front_sum}
 pub length-counts : (c : ℕ) (counts : List ℕ) (i : ℕ) → length (count_bytes c counts i) ≡ 4 * c
 unfolding count_bytes
 length-counts c counts i = length-each _ 4 (λ j. length-bytes 4 _) c
+
+pub length-bytes_of_counts : (counts : List ℕ) → length (bytes_of_counts counts) ≡ 4 * length counts
+unfolding bytes_of_counts
+length-bytes_of_counts counts = length-each _ 4 (λ j. length-bytes 4 _) (length counts)
+
+-- the c counts of station i, taken out of the counts of all
+pub counts_taken : (c : ℕ) (counts : List ℕ) (i : ℕ) → place i c ≤ length counts
+    → bytes_of_counts (mid_of (8 * i) (place i c - 8 * i) counts) ≡ count_bytes c counts i
+unfolding bytes_of_counts count_bytes
+counts_taken c counts i within =
+    let n : ℕ = place i c - 8 * i in
+    let rest : List ℕ = drop (8 * i) counts in
+    let long : length (take n rest) ≡ c = mid_len (8 * i) (place i c) counts within ∙ omega arith in
+    ap (each (λ j. bytes 4 (slice_index (take n rest) j))) long
+    ∙ each_same _ _ c (λ j l. ap (bytes 4) (get_or-take n rest j 0 (omega (arith, l)) ∙ get_or-drop (8 * i) counts j 0))
 
 length-row : (c : ℕ) (counts neighbours : List ℕ) (i : ℕ) → length (row_bytes c counts neighbours i) ≡ row_length c
 unfolding row_bytes

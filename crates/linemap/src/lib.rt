@@ -216,9 +216,7 @@ pub fn is_storable(lot: u64) -> bool
 pub fn read(s: &[u8]) -> Result<Map, ReadFault>
     ensures { Reading.read_outcome_of result ≡ Reading.reading s.now }
 {
-    let Some(trailer) = reading::read_trailer(s) else {
-        return Err(ReadFault::Short);
-    };
+    let trailer = reading::read_trailer(s).ok_or(ReadFault::Short)?;
     trailer.judge()?;
     reading::read_rows(
         s,

@@ -94,14 +94,13 @@ fn read_row(s: &[u8], width: usize, back: usize) -> Option<Row>
     })
 }
 
-// The counts of station i, whose row starts at `at`, into their places.
-fn read_counts(s: &[u8], at: usize, classes: usize, counts: &mut [u32; 512], i: usize)
-    requires { (at + 4 * classes ≤ length s.now) × (classes ≤ 8) × (i < 64) × (length counts.old ≡ 512) }
-    ensures { counts.new ≡ Stages.put counts.old (8 * i) (tabulate classes (Reading.count_in s.now at)) }
+// The counts of the row that starts at `at`, into their places.
+fn read_counts(s: &[u8], at: usize, counts: &mut [u32])
+    requires { at + 4 * length counts.old ≤ length s.now }
+    ensures { counts.new ≡ tabulate (length counts.old) (Reading.count_in s.now at) }
 {
-    let first = crate::PLACES * i;
-    for j in 0..classes {
-        counts[first + j] = get(s, at + crate::COUNT_LENGTH * j, 4) as u32;
+    for (j, count) in counts.iter_mut().enumerate() {
+        *count = get(s, at + crate::COUNT_LENGTH * j, 4) as u32;
     }
 }
 
@@ -123,10 +122,9 @@ pub(crate) fn read_rows(s: &[u8], classes: u8, k: u8, desk: u8, lot: u64) -> Res
     let mut counts = [0u32; 512];
     let mut neighbours = [0u64; 64];
     for i in 0..k as usize {
-        let Some(Row { at, set }) = read_row(s, width, need - width * i) else {
-            return Err(ReadFault::Rows);
-        };
-        read_counts(s, at, classes as usize, &mut counts, i);
+        let Row { at, set } = read_row(s, width, need - width * i).ok_or(ReadFault::Rows)?;
+        let first = crate::PLACES * i;
+        read_counts(s, at, &mut counts[first..first + classes as usize]);
         neighbours[i] = set;
     }
     let start = s.len() - need;

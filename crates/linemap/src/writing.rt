@@ -8,28 +8,22 @@ ghost use Rattle.linemap.specs.Internal.Stages;
 use crate::Map;
 use crate::numbers::{put, sum_words};
 
-// The counts of station i, from `at`.
-fn put_counts(buf: &mut [u8], at: usize, classes: usize, counts: &[u32; 512], i: usize)
-    requires { (at + 4 * classes ≤ length buf.old) × (classes ≤ 8) × (i < 64) }
-    ensures { buf.new ≡ Stages.put buf.old at (count_bytes classes counts.now i) }
+// The counts of a row, from `at`.
+fn put_counts(buf: &mut [u8], at: usize, counts: &[u32])
+    requires { at + 4 * length counts.now ≤ length buf.old }
+    ensures { buf.new ≡ Stages.put buf.old at (Stages.bytes_of_counts counts.now) }
 {
-    let first = crate::PLACES * i;
-    for j in 0..classes {
-        put(
-            buf,
-            at + crate::COUNT_LENGTH * j,
-            4,
-            counts[first + j] as u64,
-        );
+    for (j, count) in counts.iter().enumerate() {
+        put(buf, at + crate::COUNT_LENGTH * j, 4, *count as u64);
     }
 }
 
-fn put_row(buf: &mut [u8], at: usize, classes: usize, counts: &[u32; 512], i: usize, set: u64)
-    requires { (at + row_length classes ≤ length buf.old) × (classes ≤ 8) × (i < 64) }
-    ensures { buf.new ≡ Stages.put buf.old at (count_bytes classes counts.now i ++ bytes 8 set) }
+fn put_row(buf: &mut [u8], at: usize, counts: &[u32], set: u64)
+    requires { at + row_length (length counts.now) ≤ length buf.old }
+    ensures { buf.new ≡ Stages.put buf.old at (Stages.bytes_of_counts counts.now ++ bytes 8 set) }
 {
-    put_counts(buf, at, classes, counts, i);
-    put(buf, at + crate::COUNT_LENGTH * classes, 8, set);
+    put_counts(buf, at, counts);
+    put(buf, at + crate::COUNT_LENGTH * counts.len(), 8, set);
 }
 
 fn put_rows(m: Map, buf: &mut [u8])
@@ -40,7 +34,13 @@ fn put_rows(m: Map, buf: &mut [u8])
     let classes = m.classes as usize;
     let width = crate::row_length(m.classes);
     for i in 0..k {
-        put_row(buf, width * i, classes, &m.counts, i, m.neighbours[i]);
+        let first = crate::PLACES * i;
+        put_row(
+            buf,
+            width * i,
+            &m.counts[first..first + classes],
+            m.neighbours[i],
+        );
     }
 }
 

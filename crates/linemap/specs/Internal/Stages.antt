@@ -1,10 +1,11 @@
 -- What the parts of the reader and the writer say.
-use Rattle.std.specs.Prelude.{ℕ, ◌+◌, ◌-◌, ◌*◌, List, length, ◌==◌, nat_le, nat_lt, ⊤, Option, Some, None, Result, Ok, Err}
+use Rattle.std.specs.Prelude.{ℕ, ◌+◌, ◌-◌, ◌*◌, List, length, slice_index, ◌==◌, nat_le, nat_lt, ⊤, Option, Some, None, Result, Ok, Err}
 use Rattle.std.proofs.lemmas.List.Edits.{sets}
 use Rattle.finite.specs.Tests.{unless}
+use Rattle.finite.specs.Below.{each}
 use Rattle.bitset.specs.Set.{is_station_count}
 use Rattle.topology.specs.declared.Fault.TheVariants.{Classes, Stations, Desk}
-use Rattle.finite.specs.Numbers.{number}
+use Rattle.finite.specs.Numbers.{number, bytes}
 use Rattle.linemap.specs.Words.{sum_words}
 use Rattle.linemap.specs.Stored.{trailer_length, stored_length, word_count}
 use Rattle.linemap.specs.Reading.{ReadOutcome, read_refused, is_row_length, map_at, judged}
@@ -17,6 +18,10 @@ use Rattle.linemap.specs.declared.reading.Row.{Row}
 -- the list l with vs stored from `at` on
 unfoldable pub put : List ℕ → ℕ → List ℕ → List ℕ
 put l at vs = sets l at vs
+
+-- the counts of a row, "count 4"
+unfoldable pub bytes_of_counts : List ℕ → List ℕ
+bytes_of_counts counts = each (λ j. bytes 4 (slice_index counts j)) (length counts)
 
 -- the trailer's fields
 abbrev pub fields_of : List ℕ → Trailer

@@ -1,5 +1,5 @@
 -- `linemap::numbers::get` meets its contract: the n bytes, and zeros after them, are the eight bytes of their number. Assumes nothing.
-use Rattle.std.proofs.Common.{◌≡◌, ℕ, zero, suc, ◌+◌, ◌-◌, ◌*◌, ◌/◌, ◌%◌, ◌^◌, ◌<◌, ◌≤◌, List, ◌∷◌, ◌++◌, length, get_or, take, drop, replicate, refl, sym, ap, ap₂, ◌∙◌, arith, rules, pow_mono}
+use Rattle.std.proofs.Common.{◌≡◌, ℕ, zero, suc, ◌+◌, ◌-◌, ◌*◌, ◌/◌, ◌%◌, ◌^◌, ◌<◌, ◌≤◌, List, ◌∷◌, ◌++◌, length, get_or, take, drop, replicate, refl, sym, ap, ◌∙◌, arith, rules, pow_mono}
 use borrow.Rule.Slice.PartMut.{put_mid}
 use lib.Seq.{sets-eq}
 use Rattle.std.specs.Int.{w64, from_le_bytes}
