@@ -2,7 +2,7 @@
 ghost use Rattle.std.specs.Prelude.{◌≡◌, ◌+◌, ◌*◌, ◌<◌, ◌≤◌, ◌++◌, length};
 ghost use Rattle.finite.specs.Below.{each};
 ghost use Rattle.finite.specs.Numbers.{bytes};
-ghost use Rattle.linemap.specs.Stored.{row_length, trailer_length, stored_length, count_bytes, row_bytes, trailer_bytes, check_word, stored_of};
+ghost use Rattle.linemap.specs.Stored.{row_length, trailer_length, stored_length, row_bytes, trailer_bytes, check_word, stored_of};
 ghost use Rattle.linemap.specs.Internal.Stages;
 
 use crate::Map;

@@ -12,7 +12,7 @@ use Rattle.linemap.proofs.Each.{column-none, column_more, length-grid, grid-none
 use Rattle.linemap.proofs.Rules.{refused_up, row_below, row_read, row_outside, rows_outside, words_off, words_add}
 use Rattle.linemap.proofs.reading.read_rows.Invariants.{start_of, counts_of, set_of}
 use Rattle.linemap.proofs.reading.read_rows.Goals as goal
-use Rattle.linemap.proofs.reading.read_rows.Goals.{In_ok-at, After-sum_words, After-loop-i, In-loop-i}
+use Rattle.linemap.proofs.reading.read_rows.Goals.{In_ok-at, After-sum_words, After-loop-i}
 
 -- the places of the counts of row i, which the rows before it left
 places_are : {l : List ℕ} (s : List ℕ) (c k i : ℕ) → c ≤ 8 → i < 64 → l ≡ grid (counts_of s c k) c i
