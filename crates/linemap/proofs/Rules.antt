@@ -1,8 +1,7 @@
 -- Reading and writing rule by rule: what the reader's parts leave of a reading, what is left after 1 to 5, and what an accepted
 -- reading went by; the four ways that writing ends. Assumes nothing.
-use Rattle.std.proofs.Common.{◌≡◌, ℕ, ◌+◌, ◌-◌, ◌*◌, ◌%◌, ◌^◌, ◌<◌, ◌≤◌, Bool, true, false, ◌&&◌, eqb, ltb, leb, ◌⊎◌, List, ◌++◌, length, drop, Option, Some, None, Result, Ok, Err, sym, refl, ap, ◌∙◌, ap₂, ⊎_elim, mul-le-mul_left, arith, ltb-true, le-ltb, lt-ltb, eq-eqb, ne_eqb, eqb-true, le-leb, leb-false, leb-true, ok_or, IsErrAnd}
+use Rattle.std.proofs.Common.{◌≡◌, ℕ, ◌+◌, ◌-◌, ◌*◌, ◌%◌, ◌^◌, ◌<◌, ◌≤◌, Bool, true, false, ◌&&◌, eqb, ltb, leb, ◌⊎◌, List, ◌++◌, length, drop, Option, Some, None, Result, Ok, Err, sym, refl, ap, ◌∙◌, ap₂, ⊎_elim, mul-le-mul_left, arith, ltb-true, le-ltb, lt-ltb, eq-eqb, ne_eqb, eqb-true, le-leb, leb-false, leb-true}
 use Rattle.std.specs.Prelude.{⊤}
-use Rattle.std.proofs.lemmas.Result.{err_from_is_err_and}
 use borrow.Author.Tests.{lt-leb}
 use Rattle.finite.proofs.Cases.{clash, and_both}
 use Rattle.topology.specs.Answer.{is_accepted}
@@ -51,15 +50,6 @@ classes_row c w count is =
       rw (eq-eqb (w % 4) 0 (omega arith), le-leb 12 w (omega arith), le-leb w 40 (omega arith)),
       omega arith,
     )
-
--- an option that `ok_or` made a refusal of, which `?` passed up
-pub refused_up : {T : Type 0} (o : Option T) {e why : ReadFault} {r : Result Map ReadFault} → Err e ≡ ok_or o why → IsErrAnd r (λ x. x ≡ e)
-    → (o ≡ None) × (r ≡ Err why)
-refused_up None {e} {why} {r} q h =
-    let p = err_from_is_err_and r h in
-    let same : e ≡ why = cc in
-    (refl, p.1 ∙ ap Err (p.2 ∙ same))
-refused_up (Some x) q h = absurd (let z : ◌≡◌ {A = ℕ} 0 1 = cc in omega arith)
 
 -- row i of k rows of w bytes
 pub row_below : (w i k : ℕ) → i < k → w * i + w ≤ w * k

@@ -1,7 +1,6 @@
 -- What the code of any kind of net knows of its answers: the step that an entry or an answer holds, and that an outcome pins the answer and the
 -- net, so that a contract which gives the outcome leaves nothing open. Assumes nothing.
-use Rattle.std.proofs.Common.{◌≡◌, ℕ, true, [], ◌∷◌, sym, refl, ap, ◌∙◌, arith, Option, Some, None, ok_or, Result, Ok, Err, IsErrAnd}
-use Rattle.std.proofs.lemmas.Result.{err_from_is_err_and}
+use Rattle.std.proofs.Common.{◌≡◌, ℕ, true, [], ◌∷◌, sym, refl, ap, Some, Result, Ok, Err}
 use Rattle.finite.proofs.Cases.{and_both}
 use Rattle.refusal.specs.declared.Refusal.{Refusal}
 use Rattle.refusal.proofs.Laws.{number_pins, number-not-zero}
@@ -19,15 +18,6 @@ module _ {A : Type 0} {a : Result Step Refusal} {o : StepOutcome A} (net : A) (e
 
   pub answer_refused : {r : Refusal} → a ≡ Err r → o.made ≡ []
   answer_refused q = let f = rw q at e in sym (ap (λ (x : StepOutcome A). x.made) f)
-
--- an option that `ok_or` made a refusal of, which `?` passed up
-pub refused_up : {T : Type 0} (o : Option T) {e why : Refusal} {r : Result Step Refusal} → Err e ≡ ok_or o why → IsErrAnd r (λ x. x ≡ e)
-    → (o ≡ None) × (r ≡ Err why)
-refused_up None {e} {why} {r} q h =
-    let p = err_from_is_err_and r h in
-    let same : e ≡ why = cc in
-    (refl, p.1 ∙ ap Err (p.2 ∙ same))
-refused_up (Some x) q h = absurd (let z : ◌≡◌ {A = ℕ} 0 1 = cc in omega arith)
 
 pub outcome_refused : {A : Type 0} {net : A} {r : Result Step Refusal} {why : Refusal} → r ≡ Err why → step_outcome_of r net ≡ step_refused why net
 outcome_refused {net = net} e = ap (λ (a : Result Step Refusal). step_outcome_of a net) e

@@ -112,9 +112,7 @@ pub fn draw<K: Kind>(line: &mut [u64; 705], beside: &mut K::Beside, d: u16) -> R
     if !K::list(line, beside, &mut listing) {
         return Err(Refusal::OutOfForm);
     }
-    let Some(step) = K::pick(line, beside, &listing, d) else {
-        return Err(Refusal::NothingAllowed);
-    };
+    let step = K::pick(line, beside, &listing, d).ok_or(Refusal::NothingAllowed)?;
     K::make(line, beside, step);
     Ok(step)
 }

@@ -5,7 +5,8 @@ use Rattle.std.proofs.lemmas.Result.{err_from_is_err_and}
 use Rattle.linemap.specs.Reading.{ReadOutcome, is_row_length, classes_of, read_outcome_of, reading}
 use Rattle.linemap.specs.Internal.Stages.{rows_outcome}
 use Rattle.linemap.specs.declared.ReadFault.{ReadFault}
-use Rattle.linemap.proofs.Rules.{refused_up, row_classes, answered, ruled, reading-ruled, trailer_few}
+use Rattle.finite.proofs.Cases.{refused_up}
+use Rattle.linemap.proofs.Rules.{row_classes, answered, ruled, reading-ruled, trailer_few}
 use Rattle.linemap.proofs.read.Goals as goal
 use Rattle.linemap.proofs.read.Goals.{After-judge, In_ok-judge}
 

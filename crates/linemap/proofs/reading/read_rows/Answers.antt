@@ -9,7 +9,8 @@ use Rattle.linemap.specs.Words.{sum_words}
 use Rattle.linemap.specs.Stored.{row_length, stored_length, word_count}
 use Rattle.linemap.specs.Reading.{column, grid, count_in, read_outcome_of, judged}
 use Rattle.linemap.proofs.Each.{column-none, column_more, length-grid, grid-none, grid_more}
-use Rattle.linemap.proofs.Rules.{refused_up, row_below, row_read, row_outside, rows_outside, words_off, words_add}
+use Rattle.finite.proofs.Cases.{refused_up}
+use Rattle.linemap.proofs.Rules.{row_below, row_read, row_outside, rows_outside, words_off, words_add}
 use Rattle.linemap.proofs.reading.read_rows.Invariants.{start_of, counts_of, set_of}
 use Rattle.linemap.proofs.reading.read_rows.Goals as goal
 use Rattle.linemap.proofs.reading.read_rows.Goals.{In_ok-at, After-sum_words, After-loop-i}
