@@ -125,51 +125,57 @@ impl Writer<'_> {
         self.put_number(2, x.missing as u64);
         self.put(b"                    \n");
     }
+}
 
+// A map and its totals, whose numbers fit their columns.
+#[derive(Drop)]
+struct Sheet<'a> {
+    map: &'a Map,
+    held: Aggregate,
+    ghost narrow: { NarrowMap map.now },
+    ghost cells: { NarrowCells map.now.classes held },
+}
+
+impl Sheet<'_> {
     // The lines of station i, one a class.
-    fn put_station(&mut self, m: &Map, i: u8)
-        requires i_bound { i < 64 }
-        requires narrow_map { NarrowMap m.now }
-        ensures lays { Puts self.old (station_lines m.now i) self.new }
-        ensures fits { FitStation m.now.counts i m.now.classes }
+    fn put_station(&self, writer: &mut Writer, i: u8)
+        requires { i < 64 }
+        ensures lays { Puts writer.old (station_lines self.now.map.now i) writer.new }
+        ensures fits { FitStation self.now.map.now.counts i self.now.map.now.classes }
     {
         let first = 8 * i as usize;
-        for j in 0..m.classes {
-            self.put_count_line(i, j, m.counts[first + j as usize]);
+        for j in 0..self.map.classes {
+            writer.put_count_line(i, j, self.map.counts[first + j as usize]);
         }
     }
 
     // The lines of all stations.
-    fn put_stations(&mut self, m: &Map)
-        requires { NarrowMap m.now }
-        ensures lays { Puts self.old (each (station_lines m.now) m.now.k) self.new }
-        ensures fits { FitStations m.now.counts m.now.classes m.now.k }
+    fn put_stations(&self, writer: &mut Writer)
+        ensures lays { Puts writer.old (each (station_lines self.now.map.now) self.now.map.now.k) writer.new }
+        ensures fits { FitStations self.now.map.now.counts self.now.map.now.classes self.now.map.now.k }
     {
-        for i in 0..m.k {
-            self.put_station(m, i);
+        for i in 0..self.map.k {
+            self.put_station(writer, i);
         }
     }
 
     // The last lines, one a class.
-    fn put_totals(&mut self, classes: u8, held: Aggregate)
-        requires { NarrowCells classes held }
-        ensures { Puts self.old (total_lines classes held) self.new }
+    fn put_totals(&self, writer: &mut Writer)
+        ensures { Puts writer.old (total_lines self.now.map.now.classes self.now.held) writer.new }
     {
-        for j in 0..classes {
-            self.put_total_line(j, aggregate::class_of(held, j as usize));
+        for j in 0..self.map.classes {
+            writer.put_total_line(j, aggregate::class_of(self.held, j as usize));
         }
     }
 
     // The whole sheet.
-    fn put_lines(&mut self, m: &Map, held: Aggregate)
-        requires narrow_map { NarrowMap m.now }
-        requires narrow_cells { NarrowCells m.now.classes held }
-        ensures lays { Puts self.old (sheet_of m.now held) self.new }
-        ensures fits { FitStations m.now.counts m.now.classes m.now.k }
+    fn put_lines(&self, writer: &mut Writer)
+        ensures lays { Puts writer.old (sheet_of self.now.map.now self.now.held) writer.new }
+        ensures fits { FitStations self.now.map.now.counts self.now.map.now.classes self.now.map.now.k }
     {
-        self.put_lot(m.lot);
-        self.put_stations(m);
-        self.put_totals(m.classes, held);
+        writer.put_lot(self.map.lot);
+        self.put_stations(writer);
+        self.put_totals(writer);
     }
 }
 
@@ -232,7 +238,11 @@ pub fn put_sheet(
     if out.len() < need {
         return Err(SheetFault::Buffer(need));
     }
+    let sheet = Sheet {
+        map: &m,
+        held: desk.held,
+    };
     let mut writer = Writer { buf: out, at: 0 };
-    writer.put_lines(&m, desk.held);
+    sheet.put_lines(&mut writer);
     Ok(need)
 }

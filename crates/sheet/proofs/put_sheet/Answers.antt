@@ -90,15 +90,15 @@ returns-then-out-need c =
     (formed_net at.Else-not-is_well_formed) (alike at.Else-not-agrees) (reported at.Else-not-is_reported (desk-is at.After-load-desk))
     _ c.sheet_length-need.ensures c.if-out-need.true
 
-pub put_lines-requires : goal.put_lines-requires
-put_lines-requires c =
+pub invariant_of-sheet : goal.invariant_of-sheet
+invariant_of-sheet c =
     let a = c.args in
-    let at = goal.at.put_lines-requires c in
+    let at = goal.at.invariant_of-sheet c in
     let ok = accepted-map at.In_ok-accept in
     let desk = desk-is at.After-load-desk in
     record {
-      narrow_map = narrow_map a.m ok (storable_lot at.Else-not-is_storable);
-      narrow_cells = rw desk
+      narrow = narrow_map a.m ok (storable_lot at.Else-not-is_storable);
+      cells = rw desk
           (narrow_cells a.m ok (net_in a.net.now a.totals.now) (formed_net at.Else-not-is_well_formed) (alike at.Else-not-agrees)
           (reported at.Else-not-is_reported desk));
     }

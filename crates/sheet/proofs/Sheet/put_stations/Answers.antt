@@ -1,6 +1,6 @@
--- `sheet::Writer::put_stations` meets its contract: before station i the lines of the stations below it are put. Assumes nothing.
+-- `sheet::Sheet::put_stations` meets its contract: before station i the lines of the stations below it are put. Assumes nothing.
 use Rattle.sheet.proofs.Laying.{puts_none, puts_more, below_none, below_more}
-use Rattle.sheet.proofs.Writer.put_stations.Goals as goal
+use Rattle.sheet.proofs.Sheet.put_stations.Goals as goal
 
 pub loop-i-init : goal.loop-i-init
 loop-i-init c = (puts_none _, below_none)

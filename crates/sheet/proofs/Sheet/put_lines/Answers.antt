@@ -1,7 +1,7 @@
--- `sheet::Writer::put_lines` meets its contract: the lot, the stations, the totals. Assumes nothing.
+-- `sheet::Sheet::put_lines` meets its contract: the lot, the stations, the totals. Assumes nothing.
 use Rattle.sheet.specs.Layout.{sheet_of}
 use Rattle.sheet.proofs.Laying.{puts_then}
-use Rattle.sheet.proofs.Writer.put_lines.Goals as goal
+use Rattle.sheet.proofs.Sheet.put_lines.Goals as goal
 
 pub returns-clause-lays : goal.returns-clause-lays
 unfolding sheet_of

@@ -1,8 +1,0 @@
--- `sheet::Writer::put_stations` meets its contract: before station i the lines of the stations below it are put. Assumes nothing.
-use Rattle.finite.specs.Below.{each}
-use Rattle.sheet.specs.Layout.{station_lines}
-use Rattle.sheet.specs.Internal.Laying.{Puts, FitStations}
-use Rattle.sheet.proofs.Writer.put_stations.Given as goal
-
-abbrev pub invariant-loop-i : goal.invariant-loop-i
-invariant-loop-i l = Puts l.initial.self (each (station_lines l.m) l.i) l.self × FitStations l.m.counts l.m.classes l.i
