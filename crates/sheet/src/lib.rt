@@ -137,6 +137,15 @@ struct Sheet<'a> {
 }
 
 impl Sheet<'_> {
+    // Its bytes.
+    fn length(&self) -> usize
+        ensures { result ≡ sheet_length self.now.map.now }
+    {
+        let k = self.map.k as usize;
+        let classes = self.map.classes as usize;
+        LINE_LENGTH * (1 + k * classes + classes)
+    }
+
     // The lines of station i, one a class.
     fn put_station(&self, writer: &mut Writer, i: u8)
         requires { i < 64 }
@@ -200,15 +209,6 @@ fn is_reported(classes: u8, desk: Station) -> bool
     (desk.state == station::FINISHED) & are_narrow(classes, desk)
 }
 
-// The bytes of a map's sheet.
-fn sheet_length(m: Map) -> usize
-    ensures { result ≡ sheet_length m }
-{
-    let k = m.k as usize;
-    let classes = m.classes as usize;
-    LINE_LENGTH * (1 + k * classes + classes)
-}
-
 // The sheet of a map and its net, from the first byte of out, and how many bytes it fills: 2, 3, 19, 7 to 10 and 18 for the map, 11 for the net,
 // then 20, 21 and 15.
 pub fn put_sheet(
@@ -234,14 +234,14 @@ pub fn put_sheet(
     if !is_reported(m.classes, desk) {
         return Err(SheetFault::Unreported);
     }
-    let need = sheet_length(m);
-    if out.len() < need {
-        return Err(SheetFault::Buffer(need));
-    }
     let sheet = Sheet {
         map: &m,
         held: desk.held,
     };
+    let need = sheet.length();
+    if out.len() < need {
+        return Err(SheetFault::Buffer(need));
+    }
     let mut writer = Writer { buf: out, at: 0 };
     sheet.put_lines(&mut writer);
     Ok(need)

@@ -88,7 +88,7 @@ returns-then-out-need c =
     let at = goal.at.returns-then-out-need c in
     too_short a.m (net_in a.net.now a.totals.now) a.out.now (accepted-map at.In_ok-accept) (storable_lot at.Else-not-is_storable)
     (formed_net at.Else-not-is_well_formed) (alike at.Else-not-agrees) (reported at.Else-not-is_reported (desk-is at.After-load-desk))
-    _ c.sheet_length-need.ensures c.if-out-need.true
+    _ c.length-need.ensures c.if-out-need.true
 
 pub invariant_of-sheet : goal.invariant_of-sheet
 invariant_of-sheet c =
@@ -109,7 +109,7 @@ returns c =
     let at = goal.at.returns c in
     let desk = desk-is at.After-load-desk in
     let put = c.put_lines.ensures in
-    ap (sheet_outcome_of (Ok c.sheet_length-need.result)) (search rules)
+    ap (sheet_outcome_of (Ok c.length-need.result)) (search rules)
     ∙ lays_sheet a.m (net_in a.net.now a.totals.now) a.out.now (accepted-map at.In_ok-accept) (storable_lot at.Else-not-is_storable)
     (formed_net at.Else-not-is_well_formed) (alike at.Else-not-agrees) (reported at.Else-not-is_reported desk) _ put.fits
-    c.sheet_length-need.ensures c.if-out-need.false (rw desk at put.lays).lays
+    c.length-need.ensures c.if-out-need.false (rw desk at put.lays).lays
