@@ -29,10 +29,10 @@ use Rattle.demand.proofs.Demand.{demand}
 use Rattle.sheet.specs.Layout.{count_column, total_line, sheet_of}
 use Rattle.sheet.specs.Sheet.{SheetOutcome, desk_of, agrees, is_reported, sheet_length, sheet_on}
 use Rattle.sheet.specs.Adding.{line_at, columns_at, shown, is_hyphens, count_in, AddsUp, Columns, LaidOut, Sound, Sheets}
-use Rattle.sheet.specs.Internal.Laying.{NarrowCells, NarrowMap, FitStations}
+use Rattle.sheet.specs.Internal.Laying.{NarrowSheet, FitStations}
 use Rattle.sheet.proofs.Columns.{length-column, length_count, narrow_lot, narrow_station, narrow_class, narrow_total, narrow_missing}
 use Rattle.sheet.proofs.Lines.{length_sheet}
-use Rattle.sheet.proofs.Rules.{agreed, narrow_map, narrow_cells}
+use Rattle.sheet.proofs.Rules.{agreed, narrow_sheet}
 use Rattle.sheet.proofs.Shown.{shown-column, shown_count, hyphens_count}
 use Rattle.sheet.proofs.Places.{count_at_lem, total-at, count_columns, total_columns, missing_columns}
 
@@ -67,34 +67,30 @@ module _ (m : Map) (net : Net) (buffer : List ℕ) (laid : LaidOut m net buffer)
   unfolding sheet_on
   buffer_is = let p = all_passed in rw (p.ok, p.storable, p.formed, p.same, p.reported, p.enough)
 
-  map_narrow : NarrowMap m
-  map_narrow = narrow_map m all_passed.ok all_passed.storable
-
-  cells_narrow : NarrowCells m.classes (desk_of net).held
-  cells_narrow = let p = all_passed in narrow_cells m p.ok net p.formed p.same p.reported
+  sheet_narrow : NarrowSheet m (desk_of net).held
+  sheet_narrow = let p = all_passed in narrow_sheet m net p.ok p.storable p.formed p.same p.reported
 
 fit_stations : (m : Map) → Fits m → FitStations m.counts m.classes m.k
 fit_stations m fits = record { at = λ i l. record { at = λ j l'. fits.counts (place i j) } }
 
 columns_of : (m : Map) → Fits m → (net : Net) (buffer : List ℕ) → LaidOut m net buffer → Columns m (desk_of net).held
 columns_of m fits net buffer laid =
-    let narrow = map_narrow m net buffer laid in
-    let cells = cells_narrow m net buffer laid in
+    let narrow = sheet_narrow m net buffer laid in
     record {
       lot = length-column 15 m.lot (narrow_lot m.lot narrow.lot);
       station = λ i l. length-column 2 i (narrow_station i (omega (arith, l, narrow.stations)));
       class = λ j l. length-column 1 (j + 1) (narrow_class j (omega (arith, l, narrow.classes)));
       count = λ i j l l'. length_count (count_at m i j) (fits.counts (place i j));
-      total = λ j l. length-column 12 _ (narrow_total _ (cells.cells j l).total);
-      missing = λ j l. length-column 2 _ (narrow_missing _ (cells.cells j l).missing);
+      total = λ j l. length-column 12 _ (narrow_total _ (narrow.cells j l).total);
+      missing = λ j l. length-column 2 _ (narrow_missing _ (narrow.cells j l).missing);
     }
 
 long_as_said : (m : Map) → Fits m → (net : Net) (buffer : List ℕ) → LaidOut m net buffer → length (sheet_of m (desk_of net).held) ≡ sheet_length m
 long_as_said m fits net buffer laid =
-    length_sheet m (desk_of net).held (map_narrow m net buffer laid) (cells_narrow m net buffer laid) (fit_stations m fits)
+    length_sheet m (desk_of net).held (sheet_narrow m net buffer laid) (fit_stations m fits)
 
 -- where the desk reports the counts of a class added, the lines above add up to them
-module _ (m : Map) (held : Aggregate) (narrow : NarrowMap m) (cells : NarrowCells m.classes held) (fits : Fits m) (rest : List ℕ)
+module _ (m : Map) (held : Aggregate) (narrow : NarrowSheet m held) (fits : Fits m) (rest : List ℕ)
     (j : ℕ) (low : j < m.classes) (total : Reported summing m.k (λ i. count_at m i j) (cell held j)) where
   abbrev bytes : List ℕ
   bytes = sheet_of m held ++ rest
@@ -104,16 +100,16 @@ module _ (m : Map) (held : Aggregate) (narrow : NarrowMap m) (cells : NarrowCell
 
   count_is : (i : ℕ) → i < m.k → count_in m bytes j i ≡ count_column (count_at m i j)
   count_is i l =
-      ap (columns_at 5 10) (count_at_lem m held narrow cells (fit_stations m fits) rest i j l low)
+      ap (columns_at 5 10) (count_at_lem m held narrow (fit_stations m fits) rest i j l low)
       ∙ count_columns i j (count_at m i j) (omega (arith, l, narrow.stations)) few (fits.counts (place i j))
 
   last_is : line_at bytes (1 + (m.classes * m.k + j)) ≡ total_line j (cell held j)
-  last_is = total-at m held narrow cells (fit_stations m fits) rest j low
+  last_is = total-at m held narrow (fit_stations m fits) rest j low
 
   sums_up : AddsUp m bytes j
   sums_up =
       let x : Cell = cell held j in
-      let h = cells.cells j low in
+      let h = narrow.cells j low in
       record {
         counts =
             sum_ext addition m.k _ _ (λ i l. ap shown (count_is i l) ∙ shown_count (count_at m i j) (fits.counts (place i j)))
@@ -143,7 +139,7 @@ sound m fits count net number reported buffer laid j low =
     let desk = desk_held_lem m net (all_passed m net buffer laid).same in
     let rest = drop (length (sheet_of m held)) buffer in
     subst (λ (b : List ℕ). AddsUp m b j) (sym (buffer_is m net buffer laid))
-    (sums_up m held (map_narrow m net buffer laid) (cells_narrow m net buffer laid) fits rest j low
+    (sums_up m held (sheet_narrow m net buffer laid) fits rest j low
     (subst (λ (v : Aggregate). Reported summing m.k (λ i. count_at m i j) (cell v j)) desk (number reported j low)))
 
 pub sheets : Sheets

@@ -15,7 +15,7 @@ use Rattle.linemap.specs.declared.Map.{Map}
 use Rattle.linemap.specs.Maps.{count_at}
 use Rattle.sheet.specs.Layout.{column, spaced, line, lot_line, count_column, count_line, total_line, station_lines, total_lines, sheet_of}
 use Rattle.sheet.specs.Sheet.{sheet_length}
-use Rattle.sheet.specs.Internal.Laying.{Narrow, NarrowCell, NarrowCells, NarrowMap, FitStation, FitStations}
+use Rattle.sheet.specs.Internal.Laying.{Narrow, NarrowCell, NarrowSheet, FitStation, FitStations}
 use Rattle.sheet.proofs.Columns.{length-column, length-spaced, length_count, narrow_lot, narrow_station, narrow_class, narrow_total, narrow_missing}
 
 -- what fills a line after a text of so many bytes
@@ -116,17 +116,17 @@ length-station m i low few counts =
     length-each (λ j. count_line i j (count_at m i j)) 41 m.classes
     (λ j l. length-count_line i j (count_at m i j) low (omega (arith, l, few)) (counts.at j l))
 
-length-totals : (c : ℕ) (held : Aggregate) → NarrowCells c held → length (total_lines c held) ≡ 41 * c
+length-totals : (m : Map) (held : Aggregate) → NarrowSheet m held → length (total_lines m.classes held) ≡ 41 * m.classes
 unfolding total_lines
-length-totals c held cells =
-    length-each (λ j. total_line j (cell held j)) 41 c
-    (λ j l. length-total_line j (cell held j) (omega (arith, l, cells.few)) (cells.cells j l))
+length-totals m held narrow =
+    length-each (λ j. total_line j (cell held j)) 41 m.classes
+    (λ j l. length-total_line j (cell held j) (omega (arith, l, narrow.classes)) (narrow.cells j l))
 
 -- "exactly 40 bytes and a line feed" for every line
-pub length_sheet : (m : Map) (held : Aggregate) → NarrowMap m → NarrowCells m.classes held → FitStations m.counts m.classes m.k
+pub length_sheet : (m : Map) (held : Aggregate) → NarrowSheet m held → FitStations m.counts m.classes m.k
     → length (sheet_of m held) ≡ sheet_length m
 unfolding sheet_of
-length_sheet m held narrow cells counts =
+length_sheet m held narrow counts =
     let stations : List ℕ = each (station_lines m) m.k in
     let block : length stations ≡ 41 * m.classes * m.k =
     length-each (station_lines m) (41 * m.classes) m.k
@@ -140,5 +140,5 @@ length_sheet m held narrow cells counts =
       length-lot_line m.lot (narrow_lot m.lot narrow.lot),
       block,
       product,
-      length-totals m.classes held cells,
+      length-totals m held narrow,
     )

@@ -16,7 +16,7 @@ use Rattle.linemap.specs.declared.Map.{Map}
 use Rattle.linemap.specs.Maps.{count_at}
 use Rattle.sheet.specs.Layout.{column, spaced, line, lot_line, count_column, count_line, total_line, station_lines, total_lines, sheet_of}
 use Rattle.sheet.specs.Adding.{line_at, columns_at}
-use Rattle.sheet.specs.Internal.Laying.{NarrowCell, NarrowCells, NarrowMap, FitStations}
+use Rattle.sheet.specs.Internal.Laying.{NarrowCell, NarrowSheet, FitStations}
 use Rattle.sheet.proofs.Columns.{length-column, length_count, narrow_lot, narrow_total, narrow_missing}
 use Rattle.sheet.proofs.Lines.{fill, count_head, total_head, total_front, length-count_head, length-total_head, length-total_front}
 use Rattle.sheet.proofs.Lines.{length-lot_line, length-count_line, length-total_line, length-each, length-station}
@@ -41,8 +41,7 @@ piece_from f w (suc n) h rest i low =
     let r = piece_from f w n fewer (f n ++ rest) i (omega (arith, low, other)) in
     (r.0, ap (drop (w * i)) (append_assoc (each f n) (f n) rest) ∙ r.1))
 
-module _ (m : Map) (held : Aggregate) (narrow : NarrowMap m) (cells : NarrowCells m.classes held)
-    (counts : FitStations m.counts m.classes m.k) (rest : List ℕ) where
+module _ (m : Map) (held : Aggregate) (narrow : NarrowSheet m held) (counts : FitStations m.counts m.classes m.k) (rest : List ℕ) where
   abbrev after : List ℕ
   after = total_lines m.classes held ++ rest
 
@@ -82,7 +81,7 @@ module _ (m : Map) (held : Aggregate) (narrow : NarrowMap m) (cells : NarrowCell
   unfolding total_lines
   total-at j few =
       let long : (x : ℕ) → x < m.classes → length (total_line x (cell held x)) ≡ 41 =
-      λ x l. length-total_line x (cell held x) (omega (arith, l, narrow.classes)) (cells.cells x l) in
+      λ x l. length-total_line x (cell held x) (omega (arith, l, narrow.classes)) (narrow.cells x l) in
       let class = piece_from (λ x. total_line x (cell held x)) 41 m.classes long rest j few in
       let stations : List ℕ = each (station_lines m) m.k in
       ap (take 41)

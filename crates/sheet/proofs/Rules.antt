@@ -26,11 +26,11 @@ use Rattle.linemap.specs.Maps.{config_of, acceptance}
 use Rattle.linemap.specs.Writing.{is_storable}
 use Rattle.linemap.proofs.Accepted.{map_classes, map_web}
 use Rattle.rendezvous.specs.Net.{Net, well_formed}
-use Rattle.rendezvous.proofs.Laws.{form_valid, root_most, held-bounded}
+use Rattle.rendezvous.proofs.Laws.{form_valid, held-bounded}
 use Rattle.sheet.specs.declared.SheetFault.TheVariants.{Unfit, Lot, OutOfForm, Differs, Unreported, Buffer}
 use Rattle.sheet.specs.Layout.{sheet_of}
 use Rattle.sheet.specs.Sheet.{sheet_outcome_of, desk_of, agrees, are_narrow, is_reported, sheet_length, sheet_on}
-use Rattle.sheet.specs.Internal.Laying.{Lays, NarrowCells, NarrowMap, FitStations}
+use Rattle.sheet.specs.Internal.Laying.{Lays, NarrowSheet, FitStations}
 use Rattle.sheet.proofs.Lines.{length_sheet}
 
 -- what an agreement says
@@ -42,38 +42,35 @@ agreed s t h =
     let first = and_both (eqb s.k t.k) (eqb s.classes t.classes) last.0 in
     (eqb-true _ _ first.0, eqb-true _ _ first.1, eqb-true _ _ last.1)
 
--- the desk of a net in form is one of its places
-pub desk-low : (net : Net) → well_formed net ≡ true → root_of net.config < 64
-desk-low = root_most
-
 -- the numbers of a sheet fit their columns: those of a map to be written, and those that the desk reported
-module _ (m : Map) (ok : is_accepted (acceptance m) ≡ true) where
+module _ (m : Map) (net : Net) (ok : is_accepted (acceptance m) ≡ true) (storable : is_storable m.lot ≡ true) (formed : well_formed net ≡ true)
+    (same : agrees (config_of summing m) net.config ≡ true) (reported : is_reported m.classes (desk_of net) ≡ true) where
   few_classes : m.classes ≤ 8
   few_classes = (class_count m.classes (map_classes m ok)).1
 
-  pub narrow_map : is_storable m.lot ≡ true → NarrowMap m
-  narrow_map storable =
-      record { lot = ltb-true m.lot (2 ^ 48) storable; stations = (map_web m ok).few_stations; classes = few_classes }
+  desk-bounded : bounded net.config (desk_of net).held ≡ true
+  desk-bounded = held-bounded net formed (root_of net.config) (root_below net.config (form_valid net formed))
 
-  module _ (net : Net) (formed : well_formed net ≡ true) (same : agrees (config_of summing m) net.config ≡ true)
-      (reported : is_reported m.classes (desk_of net) ≡ true) where
-    desk-bounded : bounded net.config (desk_of net).held ≡ true
-    desk-bounded = held-bounded net formed (root_of net.config) (root_below net.config (form_valid net formed))
+  class_missing : (j : ℕ) → j < m.classes → (cell (desk_of net).held j).missing ≤ 64
+  class_missing j low =
+      let classes = (agreed (config_of summing m) net.config same).1 in
+      (cell_parts net.config.way (cell (desk_of net).held j)
+      (bounded_at net.config (desk_of net).held desk-bounded j (omega (arith, low, classes, few_classes)))).1
 
-    class_missing : (j : ℕ) → j < m.classes → (cell (desk_of net).held j).missing ≤ 64
-    class_missing j low =
-        let classes = (agreed (config_of summing m) net.config same).1 in
-        (cell_parts net.config.way (cell (desk_of net).held j)
-        (bounded_at net.config (desk_of net).held desk-bounded j (omega (arith, low, classes, few_classes)))).1
+  class_total : (j : ℕ) → j < m.classes → (cell (desk_of net).held j).sum < 10 ^ 12
+  unfolding is_reported are_narrow
+  class_total j low =
+      let narrow = (and_both (eqb (desk_of net).state finished) (are_narrow m.classes (desk_of net)) reported).1 in
+      ltb-true _ _ (all_below-at (λ i. ltb (cell (desk_of net).held i).sum (10 ^ 12)) m.classes j narrow low)
 
-    class_total : (j : ℕ) → j < m.classes → (cell (desk_of net).held j).sum < 10 ^ 12
-    unfolding is_reported are_narrow
-    class_total j low =
-        let narrow = (and_both (eqb (desk_of net).state finished) (are_narrow m.classes (desk_of net)) reported).1 in
-        ltb-true _ _ (all_below-at (λ i. ltb (cell (desk_of net).held i).sum (10 ^ 12)) m.classes j narrow low)
-
-    pub narrow_cells : NarrowCells m.classes (desk_of net).held
-    narrow_cells = record { few = few_classes; cells = λ j low. record { total = class_total j low; missing = class_missing j low } }
+  pub narrow_sheet : NarrowSheet m (desk_of net).held
+  narrow_sheet =
+      record {
+        lot = ltb-true m.lot (2 ^ 48) storable;
+        stations = (map_web m ok).few_stations;
+        classes = few_classes;
+        cells = λ j low. record { total = class_total j low; missing = class_missing j low };
+      }
 
 module _ (m : Map) (net : Net) (l : List ℕ) where
   pub unfit : (fault : Fault) → fault_numbers fault ≡ acceptance m → sheet_outcome_of (Err (Unfit fault)) l ≡ sheet_on m net l
@@ -114,7 +111,7 @@ module _ (m : Map) (net : Net) (l : List ℕ) where
             unfolding sheet_on
             lays_sheet need fits e enough lays =
                 let held = (desk_of net).held in
-                let long = length_sheet m held (narrow_map m ok storable) (narrow_cells m ok net formed same reported) fits in
+                let long = length_sheet m held (narrow_sheet m net ok storable formed same reported) fits in
                 let room : Room l 0 (sheet_of m held) = record { fits = omega (arith, long, e, enough) } in
                 rw (ok, storable, formed, same, reported, le-leb (sheet_length m) (length l) (omega (arith, e, enough)))
                 (ap₂ (λ (n : ℕ) (b : List ℕ). sheet_outcome_of (Ok n) b) e (put_front room (lays.put room)).1)

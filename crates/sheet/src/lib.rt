@@ -8,7 +8,7 @@ ghost use Rattle.rendezvous.specs.Net.{net_in};
 ghost use Rattle.sheet.specs.Layout.{column, spaced, lot_line, count_column, count_line, total_line, station_lines, total_lines, sheet_of};
 ghost use Rattle.sheet.specs.Sheet.{sheet_outcome_of, agrees, are_narrow, is_reported, sheet_length, sheet_on};
 ghost use Rattle.sheet.specs.declared.SheetFault.{SheetFault};
-ghost use Rattle.sheet.specs.Internal.Laying.{Puts, Narrow, NarrowCell, NarrowCells, NarrowMap, FitStation, FitStations};
+ghost use Rattle.sheet.specs.Internal.Laying.{Puts, Narrow, NarrowCell, NarrowSheet, FitStation, FitStations};
 
 use aggregate::{Aggregate, Cell, Config};
 use linemap::Map;
@@ -127,13 +127,12 @@ impl Writer<'_> {
     }
 }
 
-// A map and its totals, whose numbers fit their columns.
+// A map and its totals, whose numbers fit their columns. With the totals by value all of the map would be copied.
 #[derive(Drop)]
 struct Sheet<'a> {
     map: &'a Map,
-    held: Aggregate,
-    ghost narrow: { NarrowMap map.now },
-    ghost cells: { NarrowCells map.now.classes held },
+    held: &'a Aggregate,
+    ghost narrow: { NarrowSheet map.now held.now },
 }
 
 impl Sheet<'_> {
@@ -141,9 +140,8 @@ impl Sheet<'_> {
     fn length(&self) -> usize
         ensures { result ≡ sheet_length self.now.map.now }
     {
-        let k = self.map.k as usize;
         let classes = self.map.classes as usize;
-        LINE_LENGTH * (1 + k * classes + classes)
+        LINE_LENGTH * (1 + self.map.k as usize * classes + classes)
     }
 
     // The lines of station i, one a class.
@@ -170,16 +168,16 @@ impl Sheet<'_> {
 
     // The last lines, one a class.
     fn put_totals(&self, writer: &mut Writer)
-        ensures { Puts writer.old (total_lines self.now.map.now.classes self.now.held) writer.new }
+        ensures { Puts writer.old (total_lines self.now.map.now.classes self.now.held.now) writer.new }
     {
         for j in 0..self.map.classes {
-            writer.put_total_line(j, aggregate::class_of(self.held, j as usize));
+            writer.put_total_line(j, aggregate::class_of(*self.held, j as usize));
         }
     }
 
     // The whole sheet.
     fn put_lines(&self, writer: &mut Writer)
-        ensures lays { Puts writer.old (sheet_of self.now.map.now self.now.held) writer.new }
+        ensures lays { Puts writer.old (sheet_of self.now.map.now self.now.held.now) writer.new }
         ensures fits { FitStations self.now.map.now.counts self.now.map.now.classes self.now.map.now.k }
     {
         writer.put_lot(self.map.lot);
@@ -236,7 +234,7 @@ pub fn put_sheet(
     }
     let sheet = Sheet {
         map: &m,
-        held: desk.held,
+        held: &desk.held,
     };
     let need = sheet.length();
     if out.len() < need {

@@ -12,8 +12,9 @@ use Rattle.linemap.specs.Writing.{is_storable}
 use Rattle.stations.proofs.Words.{station_read_lem}
 use Rattle.stations.specs.Words.{config_in, station_read}
 use Rattle.rendezvous.specs.Net.{net_in, well_formed}
+use Rattle.rendezvous.proofs.Laws.{root_most}
 use Rattle.sheet.specs.Sheet.{sheet_outcome_of, desk_of, agrees, is_reported}
-use Rattle.sheet.proofs.Rules.{desk-low, narrow_map, narrow_cells, unfit, long_lot, out_of_form, differs, unreported, too_short, lays_sheet}
+use Rattle.sheet.proofs.Rules.{narrow_sheet, unfit, long_lot, out_of_form, differs, unreported, too_short, lays_sheet}
 use Rattle.sheet.proofs.put_sheet.Goals as goal
 use Rattle.sheet.proofs.put_sheet.Goals.{In_ok-accept, Else-not-is_storable, Else-not-is_well_formed, Else-not-agrees}
 use Rattle.sheet.proofs.put_sheet.Goals.{After-load-desk, Else-not-is_reported}
@@ -40,7 +41,7 @@ desk-is c =
     let formed : well_formed (net_in words totals) ≡ true = sym c.is_well_formed.ensures ∙ c.if-not-is_well_formed.false in
     c.load-desk.ensures
     ∙ ap (station_read words) root
-    ∙ station_read_lem words (root_of (config_in words)) (desk-low (net_in words totals) formed)
+    ∙ station_read_lem words (root_of (config_in words)) (root_most (net_in words totals) formed)
 
 reported : (c : Else-not-is_reported) → c.load-desk.result ≡ desk_of (net_in c.args.net.now c.args.totals.now)
     → is_reported c.args.m.classes (desk_of (net_in c.args.net.now c.args.totals.now)) ≡ true
@@ -94,13 +95,11 @@ pub invariant_of-sheet : goal.invariant_of-sheet
 invariant_of-sheet c =
     let a = c.args in
     let at = goal.at.invariant_of-sheet c in
-    let ok = accepted-map at.In_ok-accept in
     let desk = desk-is at.After-load-desk in
     record {
-      narrow = narrow_map a.m ok (storable_lot at.Else-not-is_storable);
-      cells = rw desk
-          (narrow_cells a.m ok (net_in a.net.now a.totals.now) (formed_net at.Else-not-is_well_formed) (alike at.Else-not-agrees)
-          (reported at.Else-not-is_reported desk));
+      narrow = rw desk
+          (narrow_sheet a.m (net_in a.net.now a.totals.now) (accepted-map at.In_ok-accept) (storable_lot at.Else-not-is_storable)
+          (formed_net at.Else-not-is_well_formed) (alike at.Else-not-agrees) (reported at.Else-not-is_reported desk));
     }
 
 pub returns : goal.returns

@@ -28,16 +28,12 @@ pub record NarrowCell (x : Cell) : Type 0 where
   pub total : x.sum < 10 ^ 12
   pub missing : x.missing ≤ 64
 
--- those of each class do
-pub record NarrowCells (c : ℕ) (held : Aggregate) : Type 0 where
-  pub few : c ≤ 8
-  pub cells : (j : ℕ) → j < c → NarrowCell (cell held j)
-
--- a map's numbers fit theirs
-pub record NarrowMap (m : Map) : Type 0 where
+-- the numbers of a map fit theirs, and so do those of each of its classes
+pub record NarrowSheet (m : Map) (held : Aggregate) : Type 0 where
   pub lot : m.lot < 2 ^ 48
   pub stations : m.k ≤ 64
   pub classes : m.classes ≤ 8
+  pub cells : (j : ℕ) → j < m.classes → NarrowCell (cell held j)
 
 -- P holds of every number below n
 pub record AllBelow (n : ℕ) (P : ℕ → Type 0) : Type 0 where

@@ -7,4 +7,4 @@ use Rattle.sheet.specs.Layout.{total_line}
 use Rattle.sheet.proofs.Sheet.put_totals.Given as goal
 
 abbrev pub invariant-loop-j : goal.invariant-loop-j
-invariant-loop-j l = Puts l.initial.writer (each (λ (x : ℕ). total_line x (cell l.self.held x)) l.j) l.writer
+invariant-loop-j l = Puts l.initial.writer (each (λ (x : ℕ). total_line x (cell l.self.held.now x)) l.j) l.writer
