@@ -1,21 +1,17 @@
 -- A number right-aligned in twenty columns: its digits, put at the end of blanks. Assumes nothing.
-use mathlib.Core.Path.{◌≡◌, refl, ap, ◌∙◌}
-use mathlib.Core.List.{List, [], ◌∷◌, ◌++◌, append-nil}
-use Prim.Native.Nat.{ℕ, zero, suc, ◌-◌, ◌≤◌}
+use mathlib.Core.Path.{◌≡◌, ap, ◌∙◌}
+use mathlib.Core.List.{List, [], ◌++◌, append-nil}
+use Prim.Native.Nat.{ℕ, ◌-◌, ◌≤◌}
 use Prim.Native.Char.{code}
 use native.Mathlib.Omega.{arith}
 use lib.ListN.{length, take, drop, replicate, length-drop, length-take, drop_of_length-le}
 use lib.Seq.{take-append_seam}
+use Rattle.std.proofs.lemmas.List.{take-replicate}
 use borrow.Rule.Slice.PartMut.{put_mid}
 use Rattle.finite.specs.Internal.Putting.{Room, Put}
 use Rattle.finite.proofs.Stores.{put_front}
 use Rattle.text.specs.Text.{digits, padded}
 use Rattle.text.proofs.Digits.{digits_le}
-
-take-replicate : (m n b : ℕ) → m ≤ n → take m (replicate n b) ≡ replicate m b
-take-replicate zero n b h = refl
-take-replicate (suc m) zero b h = absurd (omega arith)
-take-replicate (suc m) (suc n) b h = ap (λ (l : List ℕ). b ∷ l) (take-replicate m n b (omega arith))
 
 module _ (n : ℕ) where
   abbrev blanks : List ℕ
