@@ -108,6 +108,7 @@ impl Writer<'_> {
     }
 
     // One class: its sum, then its missing number.
+    #[tactic(auto, unfolding(crate::specs::Text::cell_text))]
     fn put_cell(&mut self, x: Cell)
         requires { Fits self.old (cell_text x) }
         ensures { Puts self.old (cell_text x) self.new }
