@@ -2,7 +2,7 @@
 -- 15 digits, a count 10, a station 2, a class 1, a total that is not refused 12 and a missing number 2. Assumes nothing.
 use mathlib.Core.Path.{◌≡◌, ap, ◌∙◌}
 use mathlib.Core.List.{List, ◌++◌}
-use Prim.Native.Nat.{ℕ, zero, suc, ◌+◌, ◌-◌, ◌^◌, ◌≤◌, ◌<◌}
+use Prim.Native.Nat.{ℕ, ◌+◌, ◌-◌, ◌^◌, ◌≤◌, ◌<◌}
 use Prim.Native.Char.{code}
 use native.Mathlib.Omega.{arith}
 use lib.ListN.{length, take, drop, replicate, length-append, length-replicate}
@@ -25,11 +25,7 @@ length-padded w text h =
 
 module _ (w n : ℕ) (h : Narrow w n) where
   few_digits : length (digits 20 n) ≤ w
-  few_digits = go w h.some h.below
-    where
-      go : (w : ℕ) → 1 ≤ w → n < 10 ^ w → length (digits 20 n) ≤ w
-      go zero some below = absurd (omega arith)
-      go (suc w) some below = digits_few 20 w n below
+  few_digits = digits_few 20 w n h.some h.below
 
   pub length-column : length (column w n) ≡ w
   unfolding column

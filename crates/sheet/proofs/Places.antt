@@ -1,19 +1,19 @@
 -- Where the lines of a sheet stand, and the columns in a line. Assumes nothing.
 use mathlib.Core.Path.{◌≡◌, sym, ap, ◌∙◌}
 use mathlib.Core.List.{List, ◌++◌, append_assoc}
-use Prim.Native.Nat.{ℕ, zero, suc, ◌+◌, ◌*◌, ◌^◌, ◌<◌}
+use Prim.Native.Nat.{ℕ, ◌+◌, ◌*◌, ◌^◌, ◌<◌}
 use native.Mathlib.Nat.{mul_assoc}
 use native.Mathlib.Omega.{arith}
 use lib.ListN.{length, take, drop}
-use lib.Seq.{take-append_seam, drop-append_seam, drop-drop}
+use lib.Seq.{take_at, drop_at, drop-drop}
 use Rattle.finite.specs.Below.{each}
-use Rattle.finite.proofs.Cases.{by_eq}
 use Rattle.aggregate.specs.declared.Cell.{Cell}
 use Rattle.aggregate.specs.declared.Aggregate.{Aggregate}
 use Rattle.aggregate.specs.Aggregate.{cell}
 use Rattle.text.specs.Ascii.{ascii}
 use Rattle.linemap.specs.declared.Map.{Map}
 use Rattle.linemap.specs.Maps.{count_at}
+use Rattle.linemap.proofs.Each.{each-split}
 use Rattle.sheet.specs.Layout.{column, spaced, line, lot_line, count_column, count_line, total_line, station_lines, total_lines, sheet_of}
 use Rattle.sheet.specs.Adding.{line_at, columns_at}
 use Rattle.sheet.specs.Internal.Laying.{NarrowCell, NarrowSheet, FitStations}
@@ -21,25 +21,17 @@ use Rattle.sheet.proofs.Columns.{length-column, length_count, narrow_lot, narrow
 use Rattle.sheet.proofs.Lines.{fill, count_head, total_head, total_front, length-count_head, length-total_head, length-total_front}
 use Rattle.sheet.proofs.Lines.{length-lot_line, length-count_line, length-total_line, length-each, length-station}
 
-past : (a b : List ℕ) (n : ℕ) → length a ≡ n → drop n (a ++ b) ≡ b
-past a b n e = ap (λ (x : ℕ). drop x (a ++ b)) (sym e) ∙ drop-append_seam a b
-
-front : (a b : List ℕ) (n : ℕ) → length a ≡ n → take n (a ++ b) ≡ a
-front a b n e = ap (λ (x : ℕ). take x (a ++ b)) (sym e) ∙ take-append_seam a b
-
 -- what stands from piece i on, of n pieces of w bytes each
 piece_from : (f : ℕ → List ℕ) (w n : ℕ) → ((i : ℕ) → i < n → length (f i) ≡ w) → (rest : List ℕ) (i : ℕ) → i < n
     → (after : List ℕ) × (drop (w * i) (each f n ++ rest) ≡ f i ++ after)
-unfolding each
-piece_from f w zero h rest i low = absurd (omega (arith, low))
-piece_from f w (suc n) h rest i low =
-    let fewer : (x : ℕ) → x < n → length (f x) ≡ w = λ x l. h x (omega (arith, l)) in
-    by_eq i n
-    (λ (e : i ≡ n).
-    rw e (rest, ap (drop (w * n)) (append_assoc (each f n) (f n) rest) ∙ past (each f n) (f n ++ rest) (w * n) (length-each f w n fewer)))
-    (λ other.
-    let r = piece_from f w n fewer (f n ++ rest) i (omega (arith, low, other)) in
-    (r.0, ap (drop (w * i)) (append_assoc (each f n) (f n) rest) ∙ r.1))
+piece_from f w n h rest i low =
+    let split = each-split f n i low in
+    let after : List ℕ = split.0 ++ rest in
+    let grouped : each f i ++ (f i ++ split.0) ++ rest ≡ each f i ++ (f i ++ after) = simp append_assoc in (
+      after,
+      ap (drop (w * i)) (ap (λ (l : List ℕ). l ++ rest) split.1 ∙ grouped)
+          ∙ drop_at (each f i) (f i ++ after) (w * i) (length-each f w i (λ x l. h x (omega (arith, l, low)))),
+    )
 
 module _ (m : Map) (held : Aggregate) (narrow : NarrowSheet m held) (counts : FitStations m.counts m.classes m.k) (rest : List ℕ) where
   abbrev after : List ℕ
@@ -55,7 +47,7 @@ module _ (m : Map) (held : Aggregate) (narrow : NarrowSheet m held) (counts : Fi
       let lot : List ℕ = lot_line m.lot in
       let stations : List ℕ = each (station_lines m) m.k in
       ap (drop 41) (append_assoc (lot ++ stations) (total_lines m.classes held) rest ∙ append_assoc lot stations after)
-      ∙ past lot (stations ++ after) 41 (length-lot_line m.lot (narrow_lot m.lot narrow.lot))
+      ∙ drop_at lot (stations ++ after) 41 (length-lot_line m.lot (narrow_lot m.lot narrow.lot))
 
   -- line 1 + (c × i + j), from what stands past the lines of i stations
   from_block : (i j : ℕ) → drop (41 * (1 + (m.classes * i + j))) (sheet_of m held ++ rest)
@@ -75,7 +67,7 @@ module _ (m : Map) (held : Aggregate) (narrow : NarrowSheet m held) (counts : Fi
       let station = piece_from (station_lines m) (41 * m.classes) m.k block after i low in
       let class = piece_from (λ x. count_line i x (count_at m i x)) 41 m.classes long station.0 j few in
       ap (take 41) (from_block i j ∙ ap (drop (41 * j)) station.1 ∙ class.1)
-      ∙ front (count_line i j (count_at m i j)) class.0 41 (long j few)
+      ∙ take_at (count_line i j (count_at m i j)) class.0 41 (long j few)
 
   pub total-at : (j : ℕ) → j < m.classes → line_at (sheet_of m held ++ rest) (1 + (m.classes * m.k + j)) ≡ total_line j (cell held j)
   unfolding total_lines
@@ -86,12 +78,12 @@ module _ (m : Map) (held : Aggregate) (narrow : NarrowSheet m held) (counts : Fi
       let stations : List ℕ = each (station_lines m) m.k in
       ap (take 41)
       (from_block m.k j
-      ∙ ap (drop (41 * j)) (past stations after (41 * m.classes * m.k) (length-each (station_lines m) (41 * m.classes) m.k block))
+      ∙ ap (drop (41 * j)) (drop_at stations after (41 * m.classes * m.k) (length-each (station_lines m) (41 * m.classes) m.k block))
       ∙ class.1)
-      ∙ front (total_line j (cell held j)) class.0 41 (long j few)
+      ∙ take_at (total_line j (cell held j)) class.0 41 (long j few)
 
 columns_at_lem : (a b c : List ℕ) (at w : ℕ) → length a ≡ at → length b ≡ w → columns_at at w (a ++ (b ++ c)) ≡ b
-columns_at_lem a b c at w p q = ap (take w) (past a (b ++ c) at p) ∙ front b c w q
+columns_at_lem a b c at w p q = ap (take w) (drop_at a (b ++ c) at p) ∙ take_at b c w q
 
 pub count_columns : (i j count : ℕ) → i < 64 → j < 8 → count < 2 ^ 32 → columns_at 5 10 (count_line i j count) ≡ count_column count
 unfolding count_line line

@@ -1,11 +1,11 @@
 -- A number right-aligned in twenty columns: its digits, put at the end of blanks. Assumes nothing.
-use mathlib.Core.Path.{◌≡◌, ap, ◌∙◌}
+use mathlib.Core.Path.{◌≡◌, sym, ap, ◌∙◌}
 use mathlib.Core.List.{List, [], ◌++◌, append-nil}
 use Prim.Native.Nat.{ℕ, ◌-◌, ◌≤◌}
 use Prim.Native.Char.{code}
 use native.Mathlib.Omega.{arith}
 use lib.ListN.{length, take, drop, replicate, length-drop, length-take, drop_of_length-le}
-use lib.Seq.{take-append_seam}
+use lib.Seq.{take_at}
 use Rattle.std.proofs.lemmas.List.{take-replicate}
 use borrow.Rule.Slice.PartMut.{put_mid}
 use Rattle.finite.specs.Internal.Putting.{Room, Put}
@@ -27,9 +27,7 @@ module _ (n : ℕ) where
     digits_front : take count l ≡ digits 20 n
     digits_front =
         let front = put_front number_room p in
-        ap (λ (m : ℕ). take m l) front.0
-        ∙ ap (take (length (digits 20 n))) front.1
-        ∙ take-append_seam (digits 20 n) (drop (length (digits 20 n)) blanks)
+        ap (take count) front.1 ∙ take_at (digits 20 n) (drop (length (digits 20 n)) blanks) count (sym front.0)
 
     -- left is what the digits were put into
     module _ {left : List ℕ} (same : left ≡ l) where

@@ -33,13 +33,14 @@ digits_le (suc f) n = go (digits_le f (n / 10)) (ltb n 10)
     go h true = omega arith
     go h false = rw length-append (omega arith)
 
--- a number below 10 ^ w has at most w digits
-pub digits_few : (f w n : ℕ) → n < 10 ^ suc w → length (digits f n) ≤ suc w
+-- a number below 10 ^ w has at most w digits, and 0 has one
+pub digits_few : (f w n : ℕ) → 1 ≤ w → n < 10 ^ w → length (digits f n) ≤ w
 unfolding digits
-digits_few zero w n low = omega arith
-digits_few (suc f) zero n low = let one : n < 10 = omega (arith, low) in rw (lt-ltb n 10 one) (omega arith)
-digits_few (suc f) (suc w) n low =
+digits_few zero w n some low = omega arith
+digits_few (suc f) zero n some low = absurd (omega arith)
+digits_few (suc f) (suc zero) n some low = let one : n < 10 = omega (arith, low) in rw (lt-ltb n 10 one) (omega arith)
+digits_few (suc f) (suc (suc w)) n some low =
     let less : n / 10 < 10 ^ suc w = omega (arith, low, pow-suc 10 (suc w)) in
     by_bool (ltb n 10)
     (λ one. rw one (omega arith))
-    (λ more. rw (more, length-append) (omega (arith, digits_few f w (n / 10) less)))
+    (λ more. rw (more, length-append) (omega (arith, digits_few f (suc w) (n / 10) (omega arith) less)))
