@@ -1,7 +1,6 @@
 -- The digits of a number, as the tests of `put_number` go: the last one stands after the others, and there are no more than allowed. Assumes
 -- nothing.
 use mathlib.Core.Path.{◌≡◌}
-use mathlib.Core.Bool.{Bool, true, false, cond}
 use mathlib.Core.List.{◌++◌}
 use Prim.Native.Nat.{ℕ, zero, suc, ◌-◌, ◌/◌, ◌%◌, ◌^◌, ◌≤◌, ◌<◌}
 use native.Mathlib.Nat.{pow-suc}
@@ -27,11 +26,10 @@ more_digits (suc f) n some high = let e : suc f - 1 ≡ f = omega arith in rw (l
 pub digits_le : (f n : ℕ) → length (digits f n) ≤ f
 unfolding digits
 digits_le zero n = omega arith
-digits_le (suc f) n = go (digits_le f (n / 10)) (ltb n 10)
-  where
-    go : length (digits f (n / 10)) ≤ f → (b : Bool) → length (cond b (digit n) (digits f (n / 10) ++ digit (n % 10))) ≤ suc f
-    go h true = omega arith
-    go h false = rw length-append (omega arith)
+digits_le (suc f) n =
+    by_bool (ltb n 10)
+    (λ one. rw one (omega arith))
+    (λ more. rw (more, length-append) (omega (arith, digits_le f (n / 10))))
 
 -- a number below 10 ^ w has at most w digits, and 0 has one
 pub digits_few : (f w n : ℕ) → 1 ≤ w → n < 10 ^ w → length (digits f n) ≤ w
