@@ -28,7 +28,7 @@ pub record NarrowCell (x : Cell) : Type 0 where
   pub total : x.sum < 10 ^ 12
   pub missing : x.missing ≤ 64
 
--- the numbers of a map fit theirs, and so do those of each of its classes
+-- the numbers of a sheet fit theirs: a map's, and those of the totals, one a class
 pub record NarrowSheet (m : Map) (held : Aggregate) : Type 0 where
   pub lot : m.lot < 2 ^ 48
   pub stations : m.k ≤ 64
