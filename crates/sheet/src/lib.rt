@@ -136,7 +136,7 @@ struct Sheet<'a> {
 }
 
 impl Sheet<'_> {
-    // Its bytes.
+    // How many bytes it fills.
     fn length(&self) -> usize
         ensures { result ≡ sheet_length self.now.map.now }
     {
