@@ -1,6 +1,7 @@
 -- The laws of `each`, pieces one after the other, of `column`, places with zeros past the last, and of `grid`, rows of 8 places.
 -- Assumes nothing.
 use Rattle.std.proofs.Common.{◌≡◌, ℕ, zero, suc, ◌+◌, ◌-◌, ◌*◌, ◌<◌, ◌≤◌, List, [], ◌∷◌, ◌++◌, length, get_or, set, drop, replicate, sym, refl, ap, ◌∙◌, ap₂, ⊎_elim, append_assoc, append-nil, eq-or-lt_of_le, add-one, arith, length-append, get_or-append-add}
+use native.Mathlib.Nat.{mul-suc}
 use lib.ListN.{length-replicate, replicate-append-replicate, get_or-append}
 use lib.Seq.{set_at, take_at, drop_at, append_snoc}
 use borrow.Rule.Slice.PartMut.{put_mid}
@@ -11,11 +12,11 @@ use Rattle.linemap.specs.Maps.{place}
 use Rattle.linemap.specs.Reading.{column, grid}
 
 -- n pieces of w elements
-pub length-each : (f : ℕ → List ℕ) (w : ℕ) → ((i : ℕ) → length (f i) ≡ w) → (n : ℕ) → length (each f n) ≡ w * n
+pub length-each : (f : ℕ → List ℕ) (w n : ℕ) → ((i : ℕ) → i < n → length (f i) ≡ w) → length (each f n) ≡ w * n
 unfolding each
-length-each f w h zero = omega arith
-length-each f w h (suc n) =
-    length-append (each f n) (f n) ∙ rw (length-each f w h n, h n) (omega arith)
+length-each f w zero h = omega arith
+length-each f w (suc n) h =
+    length-append (each f n) (f n) ∙ omega (arith, length-each f w n (λ i l. h i (omega (arith, l))), h n (omega arith), mul-suc w n)
 
 pub each_more : (f : ℕ → List ℕ) (n : ℕ) → each f (n + 1) ≡ each f n ++ f n
 unfolding each
@@ -94,7 +95,7 @@ module _ (f : ℕ → ℕ → ℕ) (c : ℕ) (few : c ≤ 8) where
   rows = each (λ i. column 8 (f i) c)
 
   length-grid-rows : (k : ℕ) → length (rows k) ≡ 8 * k
-  length-grid-rows k = length-each (λ i. column 8 (f i) c) 8 (λ i. length-column 8 (f i) c few) k
+  length-grid-rows k = length-each (λ i. column 8 (f i) c) 8 k (λ i l. length-column 8 (f i) c few)
 
   pub length-grid : (k : ℕ) → k ≤ 64 → length (grid f c k) ≡ 512
   unfolding grid

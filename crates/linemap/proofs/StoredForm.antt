@@ -17,11 +17,11 @@ use Rattle.linemap.proofs.Words.{front_sum}
 
 pub length-counts : (c : ℕ) (counts : List ℕ) (i : ℕ) → length (count_bytes c counts i) ≡ 4 * c
 unfolding count_bytes
-length-counts c counts i = length-each _ 4 (λ j. length-bytes 4 _) c
+length-counts c counts i = length-each _ 4 c (λ j l. length-bytes 4 _)
 
 pub length-bytes_of_counts : (counts : List ℕ) → length (bytes_of_counts counts) ≡ 4 * length counts
 unfolding bytes_of_counts
-length-bytes_of_counts counts = length-each _ 4 (λ j. length-bytes 4 _) (length counts)
+length-bytes_of_counts counts = length-each _ 4 (length counts) (λ j l. length-bytes 4 _)
 
 -- the c counts of station i, taken out of the counts of all
 pub counts_taken : (c : ℕ) (counts : List ℕ) (i : ℕ) → place i c ≤ length counts
@@ -64,7 +64,7 @@ module _ (m : Map) where
   c = m.classes
 
   pub length-rows : (n : ℕ) → length (each (row_bytes c m.counts m.neighbours) n) ≡ row_length c * n
-  length-rows n = length-each (row_bytes c m.counts m.neighbours) (row_length c) (length-row c m.counts m.neighbours) n
+  length-rows n = length-each (row_bytes c m.counts m.neighbours) (row_length c) n (λ i l. length-row c m.counts m.neighbours i)
 
   pub length_body : length (body_of m) ≡ length_of m - 4
   unfolding body_of

@@ -1,9 +1,9 @@
 -- Lines: how long what stands in each is, so how many blanks fill it; every line has 41 bytes, so a sheet has 41 for each. Assumes nothing.
 use mathlib.Core.Path.{◌≡◌, ap, ◌∙◌}
 use mathlib.Core.List.{List, ◌++◌}
-use Prim.Native.Nat.{ℕ, zero, suc, ◌+◌, ◌*◌, ◌-◌, ◌^◌, ◌≤◌, ◌<◌}
+use Prim.Native.Nat.{ℕ, ◌+◌, ◌*◌, ◌-◌, ◌^◌, ◌≤◌, ◌<◌}
 use Prim.Native.Char.{code}
-use native.Mathlib.Nat.{mul_assoc, mul_comm, mul-suc}
+use native.Mathlib.Nat.{mul_assoc, mul_comm}
 use native.Mathlib.Omega.{arith}
 use lib.ListN.{length, replicate, length-append, length-replicate}
 use Rattle.finite.specs.Below.{each}
@@ -13,6 +13,7 @@ use Rattle.aggregate.specs.Aggregate.{cell}
 use Rattle.text.specs.Ascii.{ascii}
 use Rattle.linemap.specs.declared.Map.{Map}
 use Rattle.linemap.specs.Maps.{count_at}
+use Rattle.linemap.proofs.Each.{length-each}
 use Rattle.sheet.specs.Layout.{column, spaced, line, lot_line, count_column, count_line, total_line, station_lines, total_lines, sheet_of}
 use Rattle.sheet.specs.Sheet.{sheet_length}
 use Rattle.sheet.specs.Internal.Laying.{Narrow, NarrowCell, NarrowSheet, FitStation, FitStations}
@@ -102,13 +103,6 @@ module _ (j : ℕ) (x : Cell) (few : j < 8) (h : NarrowCell x) where
   pub length-total_line : length (total_line j x) ≡ 41
   unfolding total_line
   length-total_line = length-line total_text (omega (arith, length-total_text))
-
--- pieces of w bytes each
-pub length-each : (f : ℕ → List ℕ) (w n : ℕ) → ((i : ℕ) → i < n → length (f i) ≡ w) → length (each f n) ≡ w * n
-unfolding each
-length-each f w zero h = omega arith
-length-each f w (suc n) h =
-    length-append (each f n) (f n) ∙ omega (arith, length-each f w n (λ i l. h i (omega (arith, l))), h n (omega arith), mul-suc w n)
 
 pub length-station : (m : Map) (i : ℕ) → i < 64 → m.classes ≤ 8 → FitStation m.counts i m.classes → length (station_lines m i) ≡ 41 * m.classes
 unfolding station_lines

@@ -13,13 +13,13 @@ use Rattle.aggregate.specs.Aggregate.{cell}
 use Rattle.text.specs.Ascii.{ascii}
 use Rattle.linemap.specs.declared.Map.{Map}
 use Rattle.linemap.specs.Maps.{count_at}
-use Rattle.linemap.proofs.Each.{each-split}
+use Rattle.linemap.proofs.Each.{length-each, each-split}
 use Rattle.sheet.specs.Layout.{column, spaced, line, lot_line, count_column, count_line, total_line, station_lines, total_lines, sheet_of}
 use Rattle.sheet.specs.Adding.{line_at, columns_at}
 use Rattle.sheet.specs.Internal.Laying.{NarrowCell, NarrowSheet, FitStations}
 use Rattle.sheet.proofs.Columns.{length-column, length_count, narrow_lot, narrow_total, narrow_missing}
 use Rattle.sheet.proofs.Lines.{fill, count_head, total_head, total_front, length-count_head, length-total_head, length-total_front}
-use Rattle.sheet.proofs.Lines.{length-lot_line, length-count_line, length-total_line, length-each, length-station}
+use Rattle.sheet.proofs.Lines.{length-lot_line, length-count_line, length-total_line, length-station}
 
 -- what stands from piece i on, of n pieces of w bytes each
 piece_from : (f : ℕ → List ℕ) (w n : ℕ) → ((i : ℕ) → i < n → length (f i) ≡ w) → (rest : List ℕ) (i : ℕ) → i < n

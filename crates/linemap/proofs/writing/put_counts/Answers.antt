@@ -18,7 +18,7 @@ loop-j-preserved c =
     let j = c.loop-j.j in
     let f : ℕ → List ℕ = λ j. bytes 4 (slice_index a.counts.now j) in
     lay a.buf.now a.at (each f j) (f j) (a.at + 4 * j) c.loop-j.invariant c.put.ensures
-    (omega (arith, length-each f 4 (λ j. length-bytes 4 _) j))
+    (omega (arith, length-each f 4 j (λ i l. length-bytes 4 _)))
     ∙ ap (put a.buf.now a.at) (sym (each_more f j))
 
 pub returns : goal.returns
