@@ -2,7 +2,7 @@
 // show them, and leave the joining to this one.
 #![tactic(auto)]
 
-ghost use Rattle.std.specs.Prelude.{◌≡◌, true, cond, Some, None, ℕ, ◌<◌, max, min, eqb, get_or};
+ghost use Rattle.std.specs.Prelude.{◌≡◌, true, cond, Ok, Err, ℕ, ◌<◌, max, min, eqb, get_or};
 ghost use Rattle.finite.specs.Numbers.{bytes};
 ghost use Rattle.aggregate.specs.Ways.{greatest, is_way, has_none, chosen_of, sum_joined, empty_sum};
 ghost use Rattle.aggregate.specs.Aggregate.{root_of, is_class_count, valid, used, cell, sum_bounded, cell_bounded, bounded, nothing, cell_gathered, gathered};
@@ -229,9 +229,9 @@ pub fn gather(t: Config, r: Reading) -> Aggregate
     Aggregate { sums, missing }
 }
 
-// Both together, in the classes in use; none where one of them is not bounded.
-pub fn join(t: Config, a: Aggregate, b: Aggregate) -> Option<Aggregate>
-    ensures { result ≡ cond (joinable t a b) (Some (joined t a b)) None }
+// Both together, in the classes in use; where one of them is not bounded, a as it was.
+pub fn join(t: Config, a: Aggregate, b: Aggregate) -> Result<Aggregate, Aggregate>
+    ensures { result ≡ cond (joinable t a b) (Ok (joined t a b)) (Err a) }
 {
     let way = t.way;
     let mut both = a;
@@ -239,12 +239,12 @@ pub fn join(t: Config, a: Aggregate, b: Aggregate) -> Option<Aggregate>
         let x = place(&a, class);
         let y = place(&b, class);
         if !(is_cell_bounded(way, x) & is_cell_bounded(way, y)) {
-            return None;
+            return Err(a);
         }
         both.sums[class] = join_sums(way, x.sum, y.sum);
         both.missing[class] = x.missing + y.missing;
     }
-    Some(both)
+    Ok(both)
 }
 
 // What a station gives of a: zero in the places past the classes in use.

@@ -13,6 +13,13 @@ use linemap::{FreshFault, Map, ReadFault, WriteFault};
 use refusal::Refusal;
 use topology::Fault;
 
+// What a call on a lent map answers, as one number, and the map after it.
+#[derive(Clone, Copy)]
+pub struct Answered {
+    pub answer: u64,
+    pub map: Map,
+}
+
 // A number and its value.
 pub(crate) fn with_value(number: u8, value: u32) -> u64
     ensures { result ≡ packed (number ∷ value ∷ []) }
@@ -73,18 +80,33 @@ fn write_fault(why: WriteFault) -> u64
     }
 }
 
+// By value, so that the lent call has the shape that the law of `lent` walks: a refusal hands back the map that it was given. Refusals first: one match
+// copies a map once more, which a read of few stations takes a quarter longer for.
+fn read(before: Map, bytes: &[u8]) -> Answered
+    ensures { called result.answer result.map ≡ read_call bytes.now before }
+{
+    let found = linemap::read(bytes);
+    if let Err(why) = found {
+        return Answered {
+            answer: read_fault(why),
+            map: before,
+        };
+    }
+    Answered {
+        answer: 0,
+        map: found.unwrap_or(before),
+    }
+}
+
 // The last map in the bytes.
 #[unsafe(no_mangle)]
 pub extern "C" fn tally_map_read(map: &mut Map, bytes: &[u8]) -> u64
     ensures { called result map.new ≡ read_call bytes.now map.old }
 {
-    match linemap::read(bytes) {
-        Ok(found) => {
-            *map = found;
-            0
-        },
-        Err(why) => read_fault(why),
-    }
+    let before = *map;
+    let after = read(before, bytes);
+    *map = after.map;
+    after.answer
 }
 
 // The stored form of a map, from the first byte.

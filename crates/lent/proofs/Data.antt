@@ -1,5 +1,5 @@
--- What the law of a lent record asks of the types in it: the record, the answer, the event that holds both, and each further
--- argument. Every field is data or a law that the type's own module has; a number, a struct and a slice of numbers have them all. Assumes nothing.
+-- What the law of a lent record asks of the types in it: the record, the answer, the event that holds both, and each further argument.
+-- Every field is data or a law that the type's own module has; a number, a struct, an enum and a slice of numbers have them all. Assumes nothing.
 use mathlib.Core.List.{List, [], ◌∷◌}
 use Prim.Native.Nat.{ℕ, suc}
 use seplogic.Ra.Ura.{Ura}
@@ -16,6 +16,9 @@ use denote.Slice.{ShrSlice, slice_ty, slice_val, shr_slice_Tells, shr_slice_Lawf
 use denote.Struct.Declared.{Declared, fields, shape, row}
 use denote.Struct.Struct.{Plains, layout}
 use denote.Struct.Laws as LL
+use denote.Enum.Enum.{Few, Plainss, layout as layout_of}
+use denote.Enum.Declared as ED
+use denote.Enum.Laws as EL
 
 -- that a value is of a MIR type, as storing it asks
 abbrev pub Of : Ty → Val → Type 0
@@ -62,6 +65,16 @@ struct-answer S = record {
   val = the_val S;
   typed = λ 𝓛 y v is. ((LL.lawful S.type S.laws 𝓛).typed y _ is).0;
   makes = λ 𝓛. LL.makes S.type S.plain 𝓛;
+}
+
+-- an enum that owns only facts, as an answer
+abbrev pub enum-answer : (T : ED.Declared) → EL.Laws T → Few (ED.shape T) → Plainss (ED.variants T) → Answer
+enum-answer T L few plain = record {
+  row = ED.row T;
+  mir = layout_of (ED.shape T);
+  val = EL.val T L;
+  typed = λ 𝓛 y v is. ((EL.lawful T L 𝓛 few).typed y _ is).0;
+  makes = λ 𝓛. EL.makes T plain 𝓛;
 }
 
 -- what the function by value returns: a struct of the answer and of the record after the event

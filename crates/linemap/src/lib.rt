@@ -216,7 +216,9 @@ pub fn is_storable(lot: u64) -> bool
 pub fn read(s: &[u8]) -> Result<Map, ReadFault>
     ensures { Reading.read_outcome_of result ≡ Reading.reading s.now }
 {
-    let trailer = reading::read_trailer(s).ok_or(ReadFault::Short)?;
+    let Some(trailer) = reading::read_trailer(s) else {
+        return Err(ReadFault::Short);
+    };
     trailer.judge()?;
     reading::read_rows(
         s,

@@ -122,7 +122,9 @@ pub(crate) fn read_rows(s: &[u8], classes: u8, k: u8, desk: u8, lot: u64) -> Res
     let mut counts = [0u32; 512];
     let mut neighbours = [0u64; 64];
     for i in 0..k as usize {
-        let Row { at, set } = read_row(s, width, need - width * i).ok_or(ReadFault::Rows)?;
+        let Some(Row { at, set }) = read_row(s, width, need - width * i) else {
+            return Err(ReadFault::Rows);
+        };
         let first = crate::PLACES * i;
         read_counts(s, at, &mut counts[first..first + classes as usize]);
         neighbours[i] = set;

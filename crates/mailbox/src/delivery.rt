@@ -52,7 +52,7 @@ pub(crate) fn may_step(step: Step, receiver: Station, content: Mailbox) -> bool
     match step.kind {
         DELIVERY => may_deliver(step.sender, step.receiver, receiver, content),
         REPORT => may_report(receiver),
-        _ => false,
+        0 | 3..=255 => false,
     }
 }
 

@@ -1,7 +1,7 @@
 // What the program's input opens: draws, then a map (document 01, "The program").
 #![tactic(auto)]
 
-ghost use Rattle.std.specs.Prelude.{◌≡◌, ◌<◌, get_or};
+ghost use Rattle.std.specs.Prelude.{◌≡◌, ◌∷◌, ◌<◌, get_or, option_to_list};
 ghost use Rattle.linemap.specs.Reading.{read_fault_numbers};
 ghost use Rattle.opening.specs.Opening as rules;
 ghost use Rattle.opening.specs.Refusals.{refusal_line};
@@ -71,13 +71,20 @@ pub fn draw_at(input: &[u8], i: u16) -> u16
     u16::from_le_bytes([byte_at(input, at), byte_at(input, at + 1)])
 }
 
+// The line of a number, and of its station where it has one.
+fn numbered(number: u8, station: Option<u8>) -> Line
+    ensures { result ≡ refusal_line (number ∷ option_to_list station) }
+{
+    match station {
+        None => Line::Refused(number),
+        Some(i) => Line::RefusedStation(number, i),
+    }
+}
+
 fn read_fault_line(fault: ReadFault) -> Line
     ensures { result ≡ refusal_line (read_fault_numbers fault) }
 {
-    match fault.station() {
-        None => Line::Refused(fault.number()),
-        Some(station) => Line::RefusedStation(fault.number(), station),
-    }
+    numbered(fault.number(), fault.station())
 }
 
 // The line of a refusal.

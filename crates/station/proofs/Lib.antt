@@ -1,3 +1,4 @@
+pub mod Lent
 pub mod Formed
 pub mod Outcomes
 pub mod Laws

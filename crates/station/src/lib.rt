@@ -105,8 +105,8 @@ impl Station {
         ensures { result ≡ cond (joinable t self.held v) (Events.answer_taken t v self) self }
     {
         match aggregate::join(t, self.held, v) {
-            Some(both) => self.holding(both),
-            None => self,
+            Ok(both) => self.holding(both),
+            Err(_) => self,
         }
     }
 
@@ -309,7 +309,7 @@ impl Process {
             return self.refused(Refusal::OutOfForm);
         }
         let s = self.station;
-        let Some(both) = aggregate::join(self.config(), s.held, v) else {
+        let Ok(both) = aggregate::join(self.config(), s.held, v) else {
             return self.refused(Refusal::OutOfRange);
         };
         if s.state != ACTIVE {
@@ -334,47 +334,54 @@ impl Process {
 }
 
 // The events on a process that a controller lends: the event by value, and its process stored back. By value above, lent here: README names both,
-// and C calls these.
-fn in_place<F: FnOnce(Process) -> Event>(p: &mut Process, event: F) -> Reply
-    requires { F.pre event p.old }
-    ensures { F.post event p.old (record { reply = result; process = p.new }) }
-{
-    let after = event(*p);
-    *p = after.process;
-    after.reply
-}
+// and C calls these. Each in the shape that the law of `lent` walks, so without a closure.
 
 // Take a start from a neighbour.
 pub fn take_start_in_place(p: &mut Process, from: u8) -> Reply
     ensures { Rules.event_outcome_of result p.new ≡ Rules.take_start from p.old }
 {
-    in_place(p, |q| q.take_start(from))
+    let before = *p;
+    let event = before.take_start(from);
+    *p = event.process;
+    event.reply
 }
 
 // Send a start to a neighbour.
 pub fn send_start_in_place(p: &mut Process, to: u8) -> Reply
     ensures { Rules.event_outcome_of result p.new ≡ Rules.send_start to p.old }
 {
-    in_place(p, |q| q.send_start(to))
+    let before = *p;
+    let event = before.send_start(to);
+    *p = event.process;
+    event.reply
 }
 
 // Take an answer.
 pub fn take_answer_in_place(p: &mut Process, v: Aggregate) -> Reply
     ensures { Rules.event_outcome_of result p.new ≡ Rules.take_answer v p.old }
 {
-    in_place(p, |q| q.take_answer(v))
+    let before = *p;
+    let event = before.take_answer(v);
+    *p = event.process;
+    event.reply
 }
 
 // Send the sum to the parent.
 pub fn send_answer_in_place(p: &mut Process) -> Reply
     ensures { Rules.event_outcome_of result p.new ≡ Rules.send_answer p.old }
 {
-    in_place(p, |q| q.send_answer())
+    let before = *p;
+    let event = before.send_answer();
+    *p = event.process;
+    event.reply
 }
 
 // Report the sum.
 pub fn report_in_place(p: &mut Process) -> Reply
     ensures { Rules.event_outcome_of result p.new ≡ Rules.report p.old }
 {
-    in_place(p, |q| q.report())
+    let before = *p;
+    let event = before.report();
+    *p = event.process;
+    event.reply
 }

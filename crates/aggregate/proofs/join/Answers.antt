@@ -5,7 +5,7 @@ use Prim.Native.Nat.{ℕ, ◌<◌, min}
 use lib.ListN.{length}
 use borrow.Author.Tests.{not-true}
 use native.Mathlib.Omega.{arith}
-use Rattle.std.specs.Prelude.{Some}
+use Rattle.std.specs.Prelude.{Ok}
 use Rattle.finite.specs.Below.{all_below}
 use Rattle.finite.proofs.Cases.{by_bool, clash, and_both}
 use Rattle.finite.proofs.Below.{all_below_more}
@@ -77,4 +77,4 @@ returns c =
     let end : l.class ≡ min c.args.t.classes 8 = omega arith in
     let a : bounded c.args.t c.args.a ≡ true = rw end at l.invariant.1 in
     let b : bounded c.args.t c.args.b ≡ true = rw end at l.invariant.2 in
-    rw (a, b) (ap Some (storing_all (λ j. cell_joined c.args.t.way (cell c.args.a j) (cell c.args.b j)) c.args.a l.both l.class l.invariant.0 _ end ls lm))
+    rw (a, b) (ap Ok (storing_all (λ j. cell_joined c.args.t.way (cell c.args.a j) (cell c.args.b j)) c.args.a l.both l.class l.invariant.0 _ end ls lm))

@@ -7,13 +7,12 @@ use Rattle.finite.specs.Numbers.{number}
 use Rattle.linemap.specs.Maps.{place}
 use Rattle.linemap.specs.Words.{sum_words}
 use Rattle.linemap.specs.Stored.{row_length, stored_length, word_count}
-use Rattle.linemap.specs.Reading.{column, grid, count_in, read_outcome_of, judged}
+use Rattle.linemap.specs.Reading.{column, grid, count_in, judged}
 use Rattle.linemap.proofs.Each.{column-none, column_more, length-grid, grid-none, grid_more}
-use Rattle.finite.proofs.Cases.{refused_up}
 use Rattle.linemap.proofs.Rules.{row_below, row_read, row_outside, rows_outside, words_off, words_add}
 use Rattle.linemap.proofs.reading.read_rows.Invariants.{start_of, counts_of, set_of}
 use Rattle.linemap.proofs.reading.read_rows.Goals as goal
-use Rattle.linemap.proofs.reading.read_rows.Goals.{In_ok-at, After-sum_words, After-loop-i}
+use Rattle.linemap.proofs.reading.read_rows.Goals.{In-Some, After-sum_words, After-loop-i}
 
 -- the places of the counts of row i, which the rows before it left
 places_are : {l : List ℕ} (s : List ℕ) (c k i : ℕ) → c ≤ 8 → i < 64 → l ≡ grid (counts_of s c k) c i
@@ -34,32 +33,31 @@ counts_more s c k i few below before start counts =
 pub loop-i-init : goal.loop-i-init
 loop-i-init c = (inl (search rules), sym (grid-none _ _ c.requires.1), sym (column-none _))
 
-pub returns-in_err-at : goal.returns-in_err-at
-returns-in_err-at c =
+pub returns-in_default : goal.returns-in_default
+returns-in_default c =
     let a = c.args in
-    let up = refused_up c.read_row.result c.in_err-at.ensures.value c.from_residual.ensures.1 in
-    let outside = row_outside a.s.now _ _ (sym c.read_row.ensures ∙ up.0) in
+    let outside = row_outside a.s.now _ _ (sym c.read_row.ensures ∙ c.in_default.is) in
     let far : length a.s.now < stored_length a.classes a.k = omega (arith, outside, c.stored_length-need.ensures) in
-    ap read_outcome_of up.1 ∙ sym (rows_outside a.s.now a.classes a.k a.desk a.lot far)
+    sym (rows_outside a.s.now a.classes a.k a.desk a.lot far)
 
 -- what the row that was read is
-row_is : (c : In_ok-at)
+row_is : (c : In-Some)
     → let a = c.args in
     let place = start_of a.s.now a.classes a.k + row_length a.classes * c.loop-i.i in
     (stored_length a.classes a.k ≤ length a.s.now)
-    × (c.in_ok-at.field-0.at ≡ place)
-    × (c.in_ok-at.field-0.set ≡ number a.s.now (place + 4 * a.classes) 8)
+    × (c.in-Some.field-0.at ≡ place)
+    × (c.in-Some.field-0.set ≡ number a.s.now (place + 4 * a.classes) 8)
 row_is c =
     let a = c.args in
     row_read a.s.now a.classes a.k c.loop-i.i _ _ _ c.loop-i-test.true c.row_length-width.ensures.0
-    c.stored_length-need.ensures c.loop-i.invariant.0 (sym c.read_row.ensures ∙ c.in_ok-at.ensures.ok_part)
+    c.stored_length-need.ensures c.loop-i.invariant.0 (sym c.read_row.ensures ∙ c.in-Some.is)
 
 pub read_counts-requires : goal.read_counts-requires
 read_counts-requires c =
     let a = c.args in
     let i = c.loop-i.i in
     let more = c.loop-i-test.true in
-    let row = row_is (goal.at.read_counts-requires c).In_ok-at in
+    let row = row_is (goal.at.read_counts-requires c).In-Some in
     let places = places_are a.s.now a.classes a.k i c.requires.1 (omega (arith, c.requires.3, more)) c.loop-i.invariant.1 in
     omega (arith, row.0, row.1, places, row_below (row_length a.classes) i a.k more)
 
@@ -68,7 +66,7 @@ loop-i-preserved c =
     let a = c.args in
     let s = a.s.now in
     let i = c.loop-i.i in
-    let row = row_is (goal.at.loop-i-preserved c).In_ok-at in
+    let row = row_is (goal.at.loop-i-preserved c).In-Some in
     let few : i < 64 = omega (arith, c.requires.3, c.loop-i-test.true) in (
       inr row.0,
       counts_more s a.classes a.k i c.requires.1 few c.loop-i.invariant.1 row.1 c.read_counts.ensures,

@@ -3,7 +3,7 @@
 use mathlib.Core.Path.{◌≡◌, refl, sym, ◌∙◌}
 use mathlib.Core.Bool.{Bool, true, false, cond}
 use borrow.Author.Tests.{eq-eqb, ne_eqb}
-use Rattle.std.specs.Prelude.{Some, None}
+use Rattle.std.specs.Prelude.{Ok, Err}
 use Rattle.finite.proofs.Cases.{by_bool}
 use Rattle.aggregate.specs.declared.Aggregate.{Aggregate}
 use Rattle.aggregate.specs.Aggregate.{bounded, joined, joinable}
@@ -21,9 +21,9 @@ tested : (v : Aggregate) (p : Process) → well_formed_process p ≡ true
 tested v p formed = rw (facts (process_config p) p.own p.station (station_formed p formed)).held-bounded
 
 -- what a join gave, where it gave something
-given : (b : Bool) (x y : Aggregate) → cond b (Some x) None ≡ Some y → (b ≡ true) × (y ≡ x)
-given true x y e = (refl, cc)
-given false x y e = cc
+given : (b : Bool) (x y z : Aggregate) → cond b (Ok x) (Err z) ≡ Ok y → (b ≡ true) × (y ≡ x)
+given true x y z e = (refl, cc)
+given false x y z e = cc
 
 pub returns-then-not-is_well_formed : goal.returns-then-not-is_well_formed
 unfolding take_answer decide
@@ -37,7 +37,7 @@ returns-in_default c =
     let formed = sym c.is_well_formed.ensures ∙ c.if-not-is_well_formed.false in
     let both = joined t p.station.held c.args.v in
     let test : joinable t p.station.held c.args.v ≡ false =
-    by_bool (joinable t p.station.held c.args.v) (λ e. absurd (c.in_default.not-Some both (rw c.config.ensures at c.join.ensures ∙ rw e))) (λ e. e) in
+    by_bool (joinable t p.station.held c.args.v) (λ e. absurd (c.in_default.not-Ok both (rw c.config.ensures at c.join.ensures ∙ rw e))) (λ e. e) in
     rw (formed, sym (tested c.args.v p formed) ∙ test) c.refused-in_default.ensures
 
 pub returns-then-s-ne-ACTIVE : goal.returns-then-s-ne-ACTIVE
@@ -45,7 +45,7 @@ unfolding take_answer decide
 returns-then-s-ne-ACTIVE c =
     let p = c.args.self in
     let formed = sym c.is_well_formed.ensures ∙ c.if-not-is_well_formed.false in
-    let both = given _ _ _ (sym (rw c.config.ensures at c.join.ensures) ∙ c.in-Some.is) in
+    let both = given _ _ _ _ (sym (rw c.config.ensures at c.join.ensures) ∙ c.in-Ok.is) in
     rw (formed, sym (tested c.args.v p formed) ∙ both.0, ne_eqb _ active c.if-s-ne-ACTIVE.true) c.refused-then-s-ne-ACTIVE.ensures
 
 pub returns : goal.returns
@@ -53,5 +53,5 @@ unfolding take_answer decide
 returns c =
     let p = c.args.self in
     let formed = sym c.is_well_formed.ensures ∙ c.if-not-is_well_formed.false in
-    let both = given _ _ _ (sym (rw c.config.ensures at c.join.ensures) ∙ c.in-Some.is) in
+    let both = given _ _ _ _ (sym (rw c.config.ensures at c.join.ensures) ∙ c.in-Ok.is) in
     rw (formed, sym (tested c.args.v p formed) ∙ both.0, eq-eqb _ active c.if-s-ne-ACTIVE.false) (rw (c.holding.ensures, both.1) at c.done.ensures)
